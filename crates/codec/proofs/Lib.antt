@@ -1,0 +1,2 @@
+-- Laws of the stores of bytes.
+pub mod Laws

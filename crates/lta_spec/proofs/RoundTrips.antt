@@ -1,0 +1,365 @@
+-- What tests that passed give, and the round trips for every N: a frame written and read back gives its fields and its
+-- lags, and an accepted frame rewritten from what was read gives its bytes.
+use mathlib.Core.Path.{_≡_, refl, sym, ap, _∙_}
+use mathlib.Core.Bool.{true, _&&_}
+use mathlib.Core.List.{List, [], _∷_, _++_, map}
+use Prim.Native.Nat.{ℕ, suc, _+_, _*_, _/_, _%_, _<_, _≤_}
+use native.Mathlib.Omega.{arith}
+use lib.Dec.{leb, ltb, eqb}
+use lib.IntN.{ℤ, pos, negsuc}
+use lib.ListN.{length, take, drop, length-drop, length-map}
+use lib.Seq.{drop-drop}
+use mir.Syntax.{w32}
+use mir.Val.{SFits}
+use borrow.Author.Tests.{leb-true, ltb-true, eqb-true, eq-eqb, le-leb}
+use Rattle.lta_spec.specs.Words.{part, splice}
+use Rattle.lta_spec.specs.Refusals.{test, firstOf, judged}
+use Rattle.lta_spec.specs.Shape.{lagCountOk, binLimit, peak}
+use Rattle.lta_spec.specs.Bytes.{wordRange, wordsOf, numberWord, signed}
+use Rattle.lta_spec.specs.Frame.{
+  accumulated,
+  headWords,
+  frameLength,
+  checksum,
+  frameOf,
+  bodyOf,
+  lagWords,
+  lagNumbers,
+  w0,
+  w1,
+  header,
+  fieldsOf,
+  fixedOk,
+  fieldsOk,
+  within,
+  lagsOk,
+}
+use Rattle.lta_spec.specs.FrameCalls.{
+  marked,
+  summed,
+  ruled,
+  readTests,
+  readVerdict,
+  readAnswer,
+  lagPart,
+  writeVerdict,
+  writeLeaves,
+  normalVerdict,
+}
+use Rattle.lta_spec.specs.declared.Fields.{Fields}
+use Rattle.lta_spec.specs.declared.Refusal.the-variants.{NoLag}
+use Rattle.lta_spec.specs.declared.Verdict.the-variants as verdict
+use Rattle.lta_spec.specs.declared.Parsed.the-variants as parsed
+use Rattle.lta_spec.proofs.WordLaws.{length-part, part-splice-same}
+use Rattle.lta_spec.proofs.TestLaws.{and-both, and-le, pass, pass-both, first-append}
+use Rattle.lta_spec.proofs.ByteLaws.{
+  Below,
+  below-drop,
+  below-part,
+  words-below,
+  length-words,
+  words-part,
+  AllFit,
+  lags-below,
+  signed-lags,
+  lags-signed,
+}
+use Rattle.lta_spec.proofs.FrameLaws.{
+  sealed-is,
+  length-frame,
+  marked-frame,
+  body-frame,
+  lags-frame,
+  summed-frame,
+  frame-again,
+}
+
+pub count-small : (n : ℕ) → lagCountOk n ≡ true → n ≤ 128
+unfolding lagCountOk
+count-small n e = and-le n 128 _ (and-le 2 n _ e .1) .0
+
+-- what fields that pass their tests are
+pub record Valid (f : Fields) : Type 0 where
+  pub kind : f .kind ≡ accumulated
+  pub cell : f .cell ≤ 15
+  pub block : f .block ≤ 255
+  pub bin : f .bin ≤ 999
+  pub bank : f .bank ≤ 1
+  pub ticks : f .ticks ≤ binLimit
+  pub centre : f .centre ≤ f .ticks
+  pub edge : f .edge ≤ f .ticks
+  pub second : f .second < wordRange
+  pub offset : f .offset ≤ 255999999
+
+pub valid : (f : Fields) → fieldsOk f ≡ true → Valid f
+unfolding fieldsOk
+valid f e =
+    let k = and-both (eqb (f .kind) accumulated) _ e in
+    let l = and-le (f .cell) 15 _ (k .1) in
+    let m = and-le (f .block) 255 _ (l .1) in
+    let b = and-le (f .bin) 999 _ (m .1) in
+    let a = and-le (f .bank) 1 _ (b .1) in
+    let t = and-le (f .ticks) binLimit _ (a .1) in
+    let c = and-le (f .centre) (f .ticks) _ (t .1) in
+    let d = and-le (f .edge) (f .ticks) _ (c .1) in
+    let s = and-le (f .second) 4294967295 _ (d .1) in
+    let o = and-le (f .offset) 255999999 _ (s .1) in
+    record {
+      kind = eqb-true _ _ (k .0);
+      cell = l .0;
+      block = m .0;
+      bin = b .0;
+      bank = a .0;
+      ticks = t .0;
+      centre = c .0;
+      edge = d .0;
+      second = omega (arith, s .0);
+      offset = o .0;
+    }
+
+-- what bytes that the reader accepts are
+pub record Accepted (n : ℕ) (s : List ℕ) : Type 0 where
+  pub count : lagCountOk n ≡ true
+  pub size : length s ≡ frameLength accumulated n
+  pub mark : marked s ≡ true
+  pub sum : summed (headWords accumulated + 2 * n) (bodyOf s) ≡ true
+  pub fixed : fixedOk (bodyOf s) ≡ true
+  pub fields : fieldsOk (fieldsOf (bodyOf s)) ≡ true
+  pub lags : lagsOk (fieldsOf (bodyOf s)) (lagNumbers accumulated n (bodyOf s)) ≡ true
+
+pub accepted : (n : ℕ) (s : List ℕ) → readVerdict n s ≡ verdict.Accepted → Accepted n s
+unfolding readVerdict ruled
+accepted n s e =
+    let c = pass (lagCountOk n) _ _ e in
+    let l = pass (eqb (length s) (frameLength accumulated n)) _ _ (c .1) in
+    let m = pass (marked s) _ _ (l .1) in
+    let w = pass (summed (headWords accumulated + 2 * n) (bodyOf s)) _ _ (m .1) in
+    let r = pass (ruled n (bodyOf s)) _ _ (w .1) in
+    let a = and-both (fixedOk (bodyOf s)) _ (r .0) in
+    let b = and-both (fieldsOk (fieldsOf (bodyOf s))) _ (a .1) in
+    record {
+      count = c .0;
+      size = eqb-true _ _ (l .0);
+      mark = m .0;
+      sum = w .0;
+      fixed = a .0;
+      fields = b .0;
+      lags = b .1;
+    }
+
+-- what arguments that the writer accepts are
+pub record Writes (n : ℕ) (f : Fields) (zs : List ℤ) (room : ℕ) : Type 0 where
+  pub count : lagCountOk n ≡ true
+  pub fields : fieldsOk f ≡ true
+  pub length : length zs ≡ 2 * n
+  pub lags : lagsOk f zs ≡ true
+  pub fits : frameLength (f .kind) n ≤ room
+
+pub writes : (n : ℕ) (f : Fields) (zs : List ℤ) (room : ℕ) → writeVerdict n f zs room ≡ verdict.Accepted
+    → Writes n f zs room
+unfolding writeVerdict
+writes n f zs room e =
+    let c = pass (lagCountOk n) _ _ e in
+    let r = pass (fieldsOk f && (eqb (length zs) (2 * n) && lagsOk f zs)) _ _ (c .1) in
+    let b = pass (leb (frameLength (f .kind) n) room) _ _ (r .1) in
+    let d = and-both (fieldsOk f) _ (r .0) in
+    let g = and-both (eqb (length zs) (2 * n)) _ (d .1) in
+    record {
+      count = c .0;
+      fields = d .0;
+      length = eqb-true _ _ (g .0);
+      lags = g .1;
+      fits = leb-true _ _ (b .0);
+    }
+
+-- normalising follows the reader's verdict
+pub normal-follows : (n : ℕ) (s : List ℕ) (k : ℕ)
+    → normalVerdict n s k ≡ judged (readVerdict n s) verdict.Refused (firstOf (test (ltb k n) NoLag ∷ []))
+unfolding readVerdict normalVerdict
+normal-follows n s k = first-append (readTests n s) (test (ltb k n) NoLag ∷ [])
+
+pub record Normalises (n : ℕ) (s : List ℕ) (k : ℕ) : Type 0 where
+  pub frame : Accepted n s
+  pub lag : k < n
+
+pub normalises : (n : ℕ) (s : List ℕ) (k : ℕ) → normalVerdict n s k ≡ verdict.Accepted → Normalises n s k
+normalises n s k e =
+    let p = pass-both (readVerdict n s) _ (sym (normal-follows n s k) ∙ e) in
+    record { frame = accepted n s (p .0); lag = ltb-true k n (pass (ltb k n) _ _ (p .1) .0) }
+
+-- the words of the lag part are the lags
+pub lag-part-read : (n : ℕ) (s : List ℕ) → readVerdict n s ≡ verdict.Accepted
+    → map signed (wordsOf (lagPart n s)) ≡ lagNumbers accumulated n (bodyOf s)
+unfolding part
+lag-part-read n s ok =
+    let size : 4 * (headWords accumulated + 2 * n) ≤ length (drop 2 s) =
+    simp length-drop (omega (arith, accepted n s ok .size)) in
+    let e : 8 * n ≡ 4 * (2 * n) = omega arith in
+    rw (ok, ← drop-drop 28 2 s, e) (ap (map signed) (words-part (headWords accumulated) (2 * n) (drop 2 s) size))
+
+-- numbers within the limit of a lag are those of an i32
+fits-within : (f : Fields) (z : ℤ) → Valid f → within (peak * f .ticks) z ≡ true → SFits w32 z
+fits-within f (pos n) v e = record { sfits = omega (arith, leb-true n (peak * f .ticks) e) }
+fits-within f (negsuc n) v e = record { sfits = omega (arith, leb-true (suc n) (peak * f .ticks) e) }
+
+pub lags-fit : (f : Fields) (zs : List ℤ) → Valid f → lagsOk f zs ≡ true → AllFit zs
+lags-fit f [] v e = tt
+lags-fit f (z ∷ zs) v e =
+    let q = and-both (within (peak * f .ticks) z) (lagsOk f zs) e in
+    (fits-within f z v (q .0), lags-fit f zs v (q .1))
+
+-- the words of a header
+pub length-header : (f : Fields) → length (header f) ≡ headWords (f .kind)
+unfolding header
+length-header f = refl
+
+pub header-below : (f : Fields) → Valid f → Below wordRange (header f)
+unfolding header
+header-below f v =
+    (omega arith, (omega arith, (omega arith, (omega arith, (omega arith, (omega arith, (omega arith, tt)))))))
+
+-- the fields of a header's words are the fields
+w0-parts : (c : ℕ) → c ≤ 15 → let w = accumulated + 2048 * c in (w % 8 ≡ accumulated) × (w / 2048 % 16 ≡ c)
+w0-parts c h = (omega arith, omega arith)
+
+w1-parts : (k b n : ℕ) → k ≤ 255 → b ≤ 999 → n ≤ 1
+    → let w = 256 * k + 65536 * b + 2147483648 * n in
+    (w / 256 % 256 ≡ k) × (w / 65536 % 32768 ≡ b) × (w / 2147483648 ≡ n)
+w1-parts k b n hk hb hn = (omega arith, omega arith, omega arith)
+
+pub fields-header : (f : Fields) (rest : List ℕ) → Valid f → fieldsOf (header f ++ rest) ≡ f
+unfolding header fieldsOf
+fields-header f rest v =
+    let p : (w0 f % 8 ≡ f .kind) × (w0 f / 2048 % 16 ≡ f .cell) = rw (v .kind) (w0-parts (f .cell) (v .cell)) in
+    let q = w1-parts (f .block) (f .bin) (f .bank) (v .block) (v .bin) (v .bank) in
+    rw (p .0, p .1, q .0, q .1, q .2)
+
+fixed-header : (f : Fields) (rest : List ℕ) → Valid f → fixedOk (header f ++ rest) ≡ true
+unfolding fixedOk header
+fixed-header f rest v =
+    rw (fields-header f rest v) (rw (eq-eqb (w0 f) (w0 f) refl, eq-eqb (w1 f) (w1 f) refl))
+
+-- and the header words of fields are the words that they were read from
+header-fields : (ws : List ℕ) → 7 ≤ length ws → fixedOk ws ≡ true → header (fieldsOf ws) ≡ take 7 ws
+unfolding header fixedOk fieldsOf
+header-fields [] h e = absurd (omega arith)
+header-fields (a ∷ []) h e = absurd (omega arith)
+header-fields (a ∷ b ∷ []) h e = absurd (omega arith)
+header-fields (a ∷ b ∷ t ∷ []) h e = absurd (omega arith)
+header-fields (a ∷ b ∷ t ∷ c ∷ []) h e = absurd (omega arith)
+header-fields (a ∷ b ∷ t ∷ c ∷ d ∷ []) h e = absurd (omega arith)
+header-fields (a ∷ b ∷ t ∷ c ∷ d ∷ s ∷ []) h e = absurd (omega arith)
+header-fields (a ∷ b ∷ t ∷ c ∷ d ∷ s ∷ o ∷ l) h e =
+    let f = fieldsOf (a ∷ b ∷ t ∷ c ∷ d ∷ s ∷ o ∷ l) in
+    let q = and-both (eqb a (w0 f)) (eqb b (w1 f)) e in
+    let first : a ≡ w0 f = eqb-true a (w0 f) (q .0) in
+    let next : b ≡ w1 f = eqb-true b (w1 f) (q .1) in
+    rw (← first, ← next)
+
+-- what is written is read as what was written
+module _ (n : ℕ) (f : Fields) (zs : List ℤ) (room : ℕ) (ok : writeVerdict n f zs room ≡ verdict.Accepted) where
+  fine : Writes n f zs room
+  fine = writes n f zs room ok
+
+  sound : Valid f
+  sound = valid f (fine .fields)
+
+  body-written : bodyOf (frameOf (header f) (lagWords zs))
+      ≡ header f ++ (lagWords zs ++ checksum (header f ++ lagWords zs) ∷ [])
+  body-written =
+      body-frame (header f) (lagWords zs) (header-below f sound) (lags-below zs) ∙ sealed-is (header f) (lagWords zs)
+
+  fields-written : fieldsOf (bodyOf (frameOf (header f) (lagWords zs))) ≡ f
+  fields-written = ap fieldsOf body-written ∙ fields-header f _ sound
+
+  length-written : length (frameOf (header f) (lagWords zs)) ≡ frameLength (f .kind) n
+  length-written =
+      omega (arith, length-frame (header f) (lagWords zs), length-header f, length-map zs numberWord, fine .length)
+
+  -- its lags
+  pub lags-written : lagNumbers accumulated n (bodyOf (frameOf (header f) (lagWords zs))) ≡ zs
+  lags-written =
+      ap (map signed)
+      (lags-frame (header f) (lagWords zs) (header-below f sound) (lags-below zs) (headWords accumulated) (2 * n)
+      (length-header f) (length-map zs numberWord ∙ fine .length))
+      ∙ signed-lags zs (lags-fit f zs sound (fine .lags))
+
+  pub accepts-written : readVerdict n (frameOf (header f) (lagWords zs)) ≡ verdict.Accepted
+  unfolding readVerdict ruled
+  accepts-written =
+      rw (
+        fine .count,
+        eq-eqb _ (frameLength accumulated n) length-written,
+        marked-frame (header f) (lagWords zs),
+        summed-frame (header f) (lagWords zs) (header-below f sound) (lags-below zs) (headWords accumulated + 2 * n)
+            (omega (arith, length-header f, length-map zs numberWord, fine .length)),
+        lags-written,
+        fields-written,
+        ap fixedOk body-written ∙ fixed-header f _ sound,
+        fine .fields,
+        fine .lags,
+      )
+
+  -- its fields
+  pub read-written : readAnswer n (frameOf (header f) (lagWords zs)) ≡ parsed.Frame f
+  read-written = rw (accepts-written, fields-written)
+
+-- the same of the calls: the reader is given the first bytes of the buffer that the writer leaves
+module _
+    (n : ℕ) (f : Fields) (zs : List ℤ) (out : List ℕ) (ok : writeVerdict n f zs (length out) ≡ verdict.Accepted)
+  where
+    pub leaves-frame : take (frameLength (f .kind) n) (writeLeaves n f zs out) ≡ frameOf (header f) (lagWords zs)
+    unfolding part
+    leaves-frame =
+        let s = frameOf (header f) (lagWords zs) in
+        let l : length s ≡ frameLength (f .kind) n = length-written n f zs (length out) ok in
+        let room : 0 + length s ≤ length out = omega (arith, writes n f zs (length out) ok .fits) in
+        rw (ok, ← l) (part-splice-same out 0 s room)
+
+    pub leaves-read : readAnswer n (take (frameLength (f .kind) n) (writeLeaves n f zs out)) ≡ parsed.Frame f
+    leaves-read = rw leaves-frame (read-written n f zs (length out) ok)
+
+    pub leaves-lags : map signed (wordsOf (lagPart n (take (frameLength (f .kind) n) (writeLeaves n f zs out)))) ≡ zs
+    leaves-lags =
+        rw leaves-frame
+        (lag-part-read n (frameOf (header f) (lagWords zs)) (accepts-written n f zs (length out) ok)
+        ∙ lags-written n f zs (length out) ok)
+
+-- what is read is written as the bytes that were read
+module _ (n : ℕ) (s : List ℕ) (bytes : Below 256 s) (ok : readVerdict n s ≡ verdict.Accepted) where
+  body-length : length (bodyOf s) ≡ headWords accumulated + 2 * n + 1
+  body-length =
+      let d : length (drop 2 s) ≡ 4 * (8 + 2 * n) = simp length-drop (omega (arith, accepted n s ok .size)) in
+      omega (arith, length-words (drop 2 s))
+
+  words-again : lagWords (lagNumbers accumulated n (bodyOf s)) ≡ part (headWords accumulated) (2 * n) (bodyOf s)
+  words-again =
+      lags-signed _
+      (below-part wordRange (headWords accumulated) (2 * n) (bodyOf s)
+      (words-below (drop 2 s) (below-drop 256 2 s bytes)))
+
+  pub frame-read : frameOf (header (fieldsOf (bodyOf s))) (lagWords (lagNumbers accumulated n (bodyOf s))) ≡ s
+  frame-read =
+      let a = accepted n s ok in
+      rw (words-again, header-fields (bodyOf s) (omega (arith, body-length)) (a .fixed))
+      (frame-again s (headWords accumulated) (2 * n) bytes (omega (arith, a .size)) (a .mark) (a .sum))
+
+  pub accepts-read : (room : ℕ) → length s ≤ room
+      → writeVerdict n (fieldsOf (bodyOf s)) (lagNumbers accumulated n (bodyOf s)) room ≡ verdict.Accepted
+  unfolding writeVerdict
+  accepts-read room h =
+      let a = accepted n s ok in
+      let l : length (lagNumbers accumulated n (bodyOf s)) ≡ 2 * n =
+      length-map (part (headWords accumulated) (2 * n) (bodyOf s)) signed
+      ∙ length-part (bodyOf s) (headWords accumulated) (2 * n) (omega (arith, body-length)) in
+      rw (
+        a .count,
+        a .fields,
+        eq-eqb _ (2 * n) l,
+        a .lags,
+        le-leb (frameLength accumulated n) room (omega (arith, a .size)),
+      )
+
+  pub leaves-again : (out : List ℕ) → length s ≤ length out
+      → writeLeaves n (fieldsOf (bodyOf s)) (lagNumbers accumulated n (bodyOf s)) out ≡ splice out 0 s
+  leaves-again out h = rw (accepts-read (length out) h, frame-read)

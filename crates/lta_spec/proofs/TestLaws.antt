@@ -1,0 +1,53 @@
+-- Laws of tests: conjunctions, and the first refusal of a list.
+use mathlib.Core.Path.{_≡_, refl, sym, ap, _∙_}
+use mathlib.Core.Bool.{Bool, true, false, cond, _&&_, and-assoc, and-true}
+use mathlib.Core.List.{List, [], _∷_, _++_}
+use Prim.Native.Nat.{ℕ, suc, _<_, _≤_}
+use native.Mathlib.Omega.{arith}
+use lib.Dec.{leb}
+use lib.ListN.{length, getD, take}
+use lib.Seq.{take-suc}
+use borrow.Author.Tests.{leb-true}
+use Rattle.lta_spec.specs.Words.{every}
+use Rattle.lta_spec.specs.Refusals.{Test, firstOf, judged}
+use Rattle.lta_spec.specs.declared.Refusal.{Refusal}
+use Rattle.lta_spec.specs.declared.Verdict.{Verdict}
+use Rattle.lta_spec.specs.declared.Verdict.the-variants.{Accepted, Refused}
+
+pub and-both : (a b : Bool) → a && b ≡ true → (a ≡ true) × (b ≡ true)
+and-both true b e = (refl, e)
+and-both false true e = (e, refl)
+and-both false false e = (e, e)
+
+pub and-le : (a b : ℕ) (t : Bool) → leb a b && t ≡ true → (a ≤ b) × (t ≡ true)
+and-le a b t e = let q = and-both (leb a b) t e in (leb-true a b (q .0), q .1)
+
+-- one element more, as a loop going up tests it
+pub every-next : {A : Type 0} (f : A → Bool) (xs : List A) (i : ℕ) (d : A) → i < length xs
+    → every f (take (suc i) xs) ≡ every f (take i xs) && f (getD xs i d)
+every-next {A} f xs i d h = ap (every f) (take-suc xs i d h) ∙ last (take i xs) (getD xs i d)
+  where
+    last : (xs : List A) (x : A) → every f (xs ++ x ∷ []) ≡ every f xs && f x
+    last [] x = and-true (f x)
+    last (y ∷ xs) x = ap (λ (r : Bool). f y && r) (last xs x) ∙ sym (and-assoc (f y) (every f xs) (f x))
+
+-- a call that is accepted has passed its first test, and the others
+pub pass : (b : Bool) (v : Verdict) (r : Refusal) → cond b v (Refused r) ≡ Accepted → (b ≡ true) × (v ≡ Accepted)
+pass true v r e = (refl, e)
+pass false v r e = let z : _≡_ {A = ℕ} 0 1 = cc in absurd (omega arith)
+
+-- more tests behind those of a list are tried where those pass
+pub first-append : (xs ys : List Test) → firstOf (xs ++ ys) ≡ judged (firstOf xs) Refused (firstOf ys)
+first-append [] ys = refl
+first-append (x ∷ xs) ys =
+    ap (λ (v : Verdict). cond (x .passes) v (Refused (x .otherwise))) (first-append xs ys)
+    ∙ one (x .passes) (firstOf xs) (firstOf ys) (x .otherwise)
+  where
+    one : (b : Bool) (v w : Verdict) (r : Refusal)
+        → cond b (judged v Refused w) (Refused r) ≡ judged (cond b v (Refused r)) Refused w
+    one true v w r = refl
+    one false v w r = refl
+
+pub pass-both : (v w : Verdict) → judged v Refused w ≡ Accepted → (v ≡ Accepted) × (w ≡ Accepted)
+pass-both Accepted w e = (refl, e)
+pass-both (Refused r) w e = let z : _≡_ {A = ℕ} 0 1 = cc in absurd (omega arith)

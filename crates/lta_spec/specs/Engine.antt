@@ -1,0 +1,212 @@
+-- The engine's definitions: the rules of the plain machine again, on rows of words, with refusal 11. A text of its
+-- own, so that demand 3 holds one against the other. n is the lags of a cell, bins the data bins of a bank.
+use Prim.Native.Nat.{ℕ, zero, suc, _+_, _*_, _-_}
+use mathlib.Core.Bool.{Bool, true, false, cond, _&&_, _||_}
+use mathlib.Core.List.{List, [], _∷_, _++_, map}
+use lib.Dec.{leb, ltb, eqb}
+use lib.ListN.{length, getD, set, take, drop, replicate}
+use Rattle.lta_spec.specs.Words.{sums, zeros, every}
+use Rattle.lta_spec.specs.Shape.{openLimit, binLimit, runLimit}
+use Rattle.lta_spec.specs.Size.{depth}
+use Rattle.lta_spec.specs.Place.{
+  Label,
+  Stamped,
+  Held,
+  Bin,
+  Cell,
+  Result,
+  free,
+  filling,
+  ready,
+  ordered,
+  overrun,
+  full,
+  replaced,
+  tooWide,
+  holdoff,
+  lossCount,
+}
+use Rattle.lta_spec.specs.Call.{save, last, discard, idle, bankOk, binIndex}
+use Rattle.lta_spec.specs.Row.{ticksOf, emptyRow, tickRow, rowOk, entryWord, fromWord, entryOk}
+
+-- a row of words
+abbrev pub Row : Type 0
+Row = List ℕ
+
+abbrev pub stamped : Row → ℕ → Stamped Row
+stamped row stamp = record { members = row; stamp = stamp }
+
+abbrev pub lossAt : (n i : ℕ) → List Row → Row
+lossAt n i ls = getD ls i (emptyRow n)
+
+-- a row is added to loss i
+unfoldable pub lose : (n i : ℕ) → Row → List Row → List Row
+lose n i row ls = set ls i (sums (lossAt n i ls) row)
+
+abbrev pub freeBin : (n : ℕ) → Bin Row
+freeBin n = record { state = free; content = stamped (emptyRow n) 0 }
+
+unfoldable pub binAt : (n k : ℕ) → Cell Row → Bin Row
+binAt n k c = getD (c .bins) k (freeBin n)
+
+-- One cell of a run: its places, and its X and Y shift registers, newest entry first
+pub record Unit : Type 0 where
+  pub cell : Cell Row
+  pub xs : List ℕ
+  pub ys : List ℕ
+
+abbrev pub noLabel : Label
+noLabel = record { command = 0; bank = 0; bin = 0 }
+
+module _ (n : ℕ) where
+  -- Tick. A tick's row is added to Open, or to loss 6 where Open is full.
+  unfoldable pub hasRoom : Cell Row → Bool
+  hasRoom c = ltb (ticksOf (c .opened .members)) openLimit
+
+  unfoldable pub tickBy : (room : Bool) → Row → Cell Row → Cell Row
+  tickBy true row c =
+      record {
+        opened = stamped (sums (c .opened .members) row) (c .opened .stamp);
+        held = c .held;
+        bins = c .bins;
+        losses = c .losses;
+      }
+  tickBy false row c =
+      record { opened = c .opened; held = c .held; bins = c .bins; losses = lose n holdoff row (c .losses) }
+
+  -- a shift register moves: a new entry, and the oldest falls out
+  abbrev pub shifted : (byte : ℕ) → List ℕ → List ℕ
+  shifted byte register = take (depth n) (entryWord byte ∷ register)
+
+  -- "The shift registers move either way."
+  unfoldable pub tickUnit : (x y : ℕ) → Unit → Unit
+  tickUnit x y u =
+      let xs = shifted x (u .xs) in
+      let ys = shifted y (u .ys) in
+      record {
+        cell = tickBy (hasRoom (u .cell)) (tickRow n (map fromWord xs) (map fromWord ys)) (u .cell);
+        xs = xs;
+        ys = ys;
+      }
+
+  -- Dump. Open's row is added to loss i, and Open is cleared and stamped t.
+  unfoldable pub loseOpen : (i t : ℕ) → Cell Row → Cell Row
+  loseOpen i t c =
+      record {
+        opened = stamped (emptyRow n) t;
+        held = c .held;
+        bins = c .bins;
+        losses = lose n i (c .opened .members) (c .losses);
+      }
+
+  -- Open's row and stamp and the label go to Held.
+  unfoldable pub holdOpen : Label → (t : ℕ) → Cell Row → Cell Row
+  holdOpen l t c =
+      record {
+        opened = stamped (emptyRow n) t;
+        held = record { occupied = 1; label = l; content = c .opened };
+        bins = c .bins;
+        losses = c .losses;
+      }
+
+  unfoldable pub dumpBy : (nothing dropped occupied : Bool) → Label → (t : ℕ) → Cell Row → Result Row
+  dumpBy true d o l t c = record { answer = 7; cell = c }
+  dumpBy false true o l t c = record { answer = 1; cell = loseOpen ordered t c }
+  dumpBy false false true l t c = record { answer = 2; cell = loseOpen overrun t c }
+  dumpBy false false false l t c = record { answer = 0; cell = holdOpen l t c }
+
+  unfoldable pub dumpCell : Label → (t : ℕ) → Cell Row → Result Row
+  dumpCell l t c = dumpBy (eqb (l .command) idle) (eqb (l .command) discard) (eqb (c .held .occupied) 1) l t c
+
+  -- Integrate. Held's flag and row are cleared, its label and stamp stay; bin k and the losses become b and ls.
+  unfoldable pub release : (k : ℕ) → Bin Row → List Row → Cell Row → Cell Row
+  release k b ls c =
+      record {
+        opened = c .opened;
+        held =
+            record { occupied = 0; label = c .held .label; content = stamped (emptyRow n) (c .held .content .stamp) };
+        bins = set (c .bins) k b;
+        losses = ls;
+      }
+
+  unfoldable pub stateAfter : (last : Bool) → ℕ
+  stateAfter true = ready
+  stateAfter false = filling
+
+  unfoldable pub stampAfter : (wasFree : Bool) (new old : ℕ) → ℕ
+  stampAfter true new old = new
+  stampAfter false new old = old
+
+  unfoldable pub integrateBy : (isReady replaces isWide : Bool) (k : ℕ) → Bin Row → Cell Row → Result Row
+  integrateBy true r w k b c =
+      record { answer = 3; cell = release k b (lose n full (c .held .content .members) (c .losses)) c }
+  integrateBy false true w k b c =
+      record {
+        answer = 4;
+        cell =
+            release k (record { state = filling; content = c .held .content })
+            (lose n replaced (b .content .members) (c .losses)) c;
+      }
+  integrateBy false false true k b c =
+      record {
+        answer = 5;
+        cell =
+            release k (record { state = stateAfter (eqb (c .held .label .command) last); content = b .content })
+            (lose n tooWide (c .held .content .members) (c .losses)) c;
+      }
+  integrateBy false false false k b c =
+      record {
+        answer = 0;
+        cell =
+            release k
+            (record {
+              state = stateAfter (eqb (c .held .label .command) last);
+              content =
+                  stamped (sums (b .content .members) (c .held .content .members))
+                  (stampAfter (eqb (b .state) free) (c .held .content .stamp) (b .content .stamp));
+            })
+            (c .losses) c;
+      }
+
+  abbrev pub isReplacing : Bin Row → Cell Row → Bool
+  isReplacing b c = eqb (c .held .label .command) save && eqb (b .state) filling
+
+  abbrev pub isTooWide : Bin Row → Cell Row → Bool
+  isTooWide b c = ltb binLimit (ticksOf (b .content .members) + ticksOf (c .held .content .members))
+
+  unfoldable pub integrateAt : (k : ℕ) → Bin Row → Cell Row → Result Row
+  integrateAt k b c = integrateBy (eqb (b .state) ready) (isReplacing b c) (isTooWide b c) k b c
+
+  -- the bin that Held's label names
+  abbrev pub heldBin : (bins : ℕ) → Cell Row → ℕ
+  heldBin bins c = binIndex bins (c .held .label .bank) (c .held .label .bin)
+
+  unfoldable pub integrateCell : (bins : ℕ) → Cell Row → Result Row
+  integrateCell bins c = integrateAt (heldBin bins c) (binAt n (heldBin bins c) c) c
+
+  -- Emit. The bin is Free and its row cleared; its stamp stays.
+  unfoldable pub emptyBin : (k : ℕ) → Cell Row → Cell Row
+  emptyBin k c =
+      record {
+        opened = c .opened;
+        held = c .held;
+        bins =
+            set (c .bins) k (record { state = free; content = stamped (emptyRow n) ((binAt n k c) .content .stamp) });
+        losses = c .losses;
+      }
+
+  -- Setup. All rows clear, Held unoccupied, bins Free, registers full of invalid entries.
+  abbrev pub freshUnit : (bins : ℕ) → Unit
+  freshUnit bins =
+      record {
+        cell =
+            record {
+              opened = stamped (emptyRow n) 0;
+              held =
+                  record { occupied = 0; label = noLabel; content = stamped (emptyRow n) 0 };
+              bins = replicate (2 * bins) (freeBin n);
+              losses = replicate lossCount (emptyRow n);
+            };
+        xs = zeros (depth n);
+        ys = zeros (depth n);
+      }

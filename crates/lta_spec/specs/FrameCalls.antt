@@ -1,0 +1,112 @@
+-- The calls on frames: reader, lag part, writer, normalised lag. Refusals "1 for N, then 13, 14, 15, 16. Normalising:
+-- 12 last. Writing fields: 1, 16, 10."
+use Prim.Native.Nat.{ℕ, zero, suc, _+_, _*_, _%_}
+use mathlib.Core.Bool.{Bool, cond, _&&_}
+use mathlib.Core.List.{List, [], _∷_, _++_}
+use lib.Dec.{leb, ltb, eqb}
+use lib.IntN.{ℤ, pos}
+use lib.Ieee.{Float, binary64, div, ofInt}
+use lib.ListN.{length, getD, take}
+use Rattle.lta_spec.specs.Words.{part, splice}
+use Rattle.lta_spec.specs.Refusals.{Test, test, firstOf, judged}
+use Rattle.lta_spec.specs.Shape.{lagCountOk}
+use Rattle.lta_spec.specs.Bytes.{signed}
+use Rattle.lta_spec.specs.Frame.{
+  accumulated,
+  headWords,
+  frameLength,
+  lagsAt,
+  checksum,
+  frameOf,
+  bodyOf,
+  lagWords,
+  lagNumbers,
+  header,
+  fieldsOf,
+  fixedOk,
+  fieldsOk,
+  lagsOk,
+}
+use Rattle.lta_spec.specs.declared.Fields.{Fields}
+use Rattle.lta_spec.specs.declared.Refusal.the-variants.{BadShape, ShortBuffer, NoLag}
+use Rattle.lta_spec.specs.declared.Refusal.the-variants.{WrongLength, WrongMark, WrongSum, BadField}
+use Rattle.lta_spec.specs.declared.Verdict.{Verdict}
+use Rattle.lta_spec.specs.declared.Parsed.{Parsed}
+use Rattle.lta_spec.specs.declared.Parsed.the-variants as parsed
+use Rattle.lta_spec.specs.declared.Written.{Written}
+use Rattle.lta_spec.specs.declared.Written.the-variants as written
+use Rattle.lta_spec.specs.declared.Normalised.{Normalised}
+use Rattle.lta_spec.specs.declared.Normalised.the-variants as normalised
+
+-- 14: the bytes start with the mark
+unfoldable pub marked : (s : List ℕ) → Bool
+marked s = eqb (getD s 0 0) 76 && eqb (getD s 1 0) 84
+
+-- 15: the word behind the first k is their sum
+unfoldable pub summed : (k : ℕ) (body : List ℕ) → Bool
+summed k ws = eqb (getD ws k 0) (checksum (take k ws))
+
+-- 16: the rules on the words behind the mark
+unfoldable pub ruled : (n : ℕ) (body : List ℕ) → Bool
+ruled n ws = fixedOk ws && (fieldsOk (fieldsOf ws) && lagsOk (fieldsOf ws) (lagNumbers accumulated n ws))
+
+-- what the frame sender may be told, in order
+abbrev pub readTests : (n : ℕ) (s : List ℕ) → List Test
+readTests n s =
+    test (lagCountOk n) BadShape
+    ∷ test (eqb (length s) (frameLength accumulated n)) WrongLength
+    ∷ test (marked s) WrongMark
+    ∷ test (summed (headWords accumulated + 2 * n) (bodyOf s)) WrongSum
+    ∷ test (ruled n (bodyOf s)) BadField
+    ∷ []
+
+unfoldable pub readVerdict : (n : ℕ) (s : List ℕ) → Verdict
+readVerdict n s = firstOf (readTests n s)
+
+-- the reader returns the fields
+abbrev pub readAnswer : (n : ℕ) (s : List ℕ) → Parsed
+readAnswer n s = judged (readVerdict n s) parsed.Refused (parsed.Frame (fieldsOf (bodyOf s)))
+
+-- "the part of the caller's bytes that holds the lag pairs", "the empty part where the reader refuses"
+abbrev pub lagPart : (n : ℕ) (s : List ℕ) → List ℕ
+lagPart n s = judged (readVerdict n s) (λ r. []) (part (lagsAt accumulated) (8 * n) s)
+
+-- what the writer of fields and lag numbers may be told, in order; room is the length of the buffer
+unfoldable pub writeVerdict : (n : ℕ) → Fields → List ℤ → (room : ℕ) → Verdict
+writeVerdict n f zs room =
+    firstOf
+    (test (lagCountOk n) BadShape
+    ∷ test (fieldsOk f && (eqb (length zs) (2 * n) && lagsOk f zs)) BadField
+    ∷ test (leb (frameLength (f .kind) n) room) ShortBuffer
+    ∷ [])
+
+-- the writer "answers the frame's length"
+abbrev pub writeAnswer : (n : ℕ) → Fields → List ℤ → (room : ℕ) → Written
+writeAnswer n f zs room =
+    judged (writeVerdict n f zs room) written.Refused (written.Length (frameLength (f .kind) n))
+
+-- what it leaves in the buffer: "bytes of any lent buffer past what a call writes keep their contents"
+abbrev pub writeLeaves : (n : ℕ) → Fields → List ℤ → (out : List ℕ) → List ℕ
+writeLeaves n f zs out =
+    judged (writeVerdict n f zs (length out)) (λ r. out) (splice out 0 (frameOf (header f) (lagWords zs)))
+
+-- "one division each on exactly converted numbers", in f64
+abbrev pub quotient : ℤ → ℕ → Float
+quotient z count = div binary64 (ofInt binary64 z) (ofInt binary64 (pos count))
+
+-- lag k of the words behind the mark, I and Q each divided by the centre count; "if that count is 0, no data"
+abbrev pub normalOf : (body : List ℕ) (k : ℕ) → Normalised
+normalOf ws k =
+    cond (eqb (getD ws 3 0) 0)
+    normalised.NoData
+    (normalised.Lag
+    (record {
+      re = quotient (signed (getD ws (headWords accumulated + 2 * k) 0)) (getD ws 3 0);
+      im = quotient (signed (getD ws (headWords accumulated + 2 * k + 1) 0)) (getD ws 3 0);
+    }))
+
+unfoldable pub normalVerdict : (n : ℕ) (s : List ℕ) (k : ℕ) → Verdict
+normalVerdict n s k = firstOf (readTests n s ++ test (ltb k n) NoLag ∷ [])
+
+abbrev pub normalAnswer : (n : ℕ) (s : List ℕ) (k : ℕ) → Normalised
+normalAnswer n s k = judged (normalVerdict n s k) normalised.Refused (normalOf (bodyOf s) k)

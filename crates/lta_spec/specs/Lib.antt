@@ -1,0 +1,21 @@
+-- What the papers say, in the order of document 01. A reader who believes these files need believe no other.
+pub mod Words
+pub mod Refusals
+pub mod Shape
+pub mod Size
+pub mod Tick
+pub mod Place
+pub mod Bytes
+pub mod Frame
+pub mod FrameCalls
+pub mod Call
+pub mod Machine
+pub mod Numbers
+pub mod MachineRun
+pub mod Row
+pub mod Engine
+pub mod Damage
+pub mod Layout
+pub mod Memory
+pub mod Step
+pub mod Edges

@@ -1,0 +1,168 @@
+-- Document 01, "The plain machine", a run: its cells, the refusals, the calls. It is fed the arguments of setup and
+-- of each call, of work memory the length alone.
+use Prim.Native.Nat.{ℕ, suc, _+_, _*_, _-_}
+use mathlib.Core.Bool.{cond, not, _&&_}
+use mathlib.Core.List.{List, [], _∷_, _++_}
+use lib.Dec.{leb, ltb, eqb}
+use lib.ListN.{length, getD, set, drop, replicate}
+use Rattle.lta_spec.specs.Words.{splice}
+use Rattle.lta_spec.specs.Refusals.{Test, test, firstOf, judged}
+use Rattle.lta_spec.specs.Shape.{runLimit}
+use Rattle.lta_spec.specs.Size.{hostTests}
+use Rattle.lta_spec.specs.Place.{Cell, Result, ready, lossCount}
+use Rattle.lta_spec.specs.Frame.{accumulated, frameLength}
+use Rattle.lta_spec.specs.Call.{Call, Answer, lentTo, commandOk, dumpLabel, dataBinOk, bankOk, binIndex}
+use Rattle.lta_spec.specs.Call.Call.{tick, dump, integrate, emit, reading}
+use Rattle.lta_spec.specs.Call.Answer.{refused, number, entry}
+use Rattle.lta_spec.specs.Machine.{Ticks, hasRoom, tickCell, dumpCell, integrateCell, binAt, emptyBin, freshCell}
+use Rattle.lta_spec.specs.Numbers.{Emitted, setSums, setFrame}
+use Rattle.lta_spec.specs.declared.Shape.{Shape}
+use Rattle.lta_spec.specs.declared.Refusal.the-variants.{WrongSamples, RunFull, NoCell, BadCommand, NoBin}
+use Rattle.lta_spec.specs.declared.Refusal.the-variants.{NothingHeld, NotReady, ShortBuffer, NoLag}
+use Rattle.lta_spec.specs.declared.Verdict.{Verdict}
+
+-- One cell of a run: its places, its emitted frames, newest first, and the X and Y bytes of the accepted ticks,
+-- newest first, from which "all numbers follow"
+pub record Unit : Type 0 where
+  pub cell : Cell Ticks
+  pub frames : List Emitted
+  pub xs : List ℕ
+  pub ys : List ℕ
+
+pub record Run : Type 0 where
+  pub t : ℕ
+  pub units : List Unit
+
+abbrev pub freshUnit : Shape → Unit
+freshUnit sh = record { cell = freshCell (sh .bins); frames = []; xs = []; ys = [] }
+
+-- a fresh run: "tick number t = 0, all sets empty"
+abbrev pub start : Shape → Run
+start sh = record { t = 0; units = replicate (sh .cells) (freshUnit sh) }
+
+abbrev pub unitAt : Shape → (c : ℕ) → Run → Unit
+unitAt sh c r = getD (r .units) c (freshUnit sh)
+
+-- "The machine judges refusals by those arguments and its own t, sets, flags and bin states; 11 never arises." Each
+-- call's refusals in order
+module _ (sh : Shape) (r : Run) where
+  abbrev pub callTests : Call → List Test
+  callTests (tick samples) =
+      test (eqb (length samples) (2 * sh .cells)) WrongSamples
+      ∷ test (not (eqb (r .t) runLimit)) RunFull
+      ∷ []
+  callTests (dump cell command bank phase block) =
+      test (ltb cell (sh .cells)) NoCell
+      ∷ test (commandOk command) BadCommand
+      ∷ test (bankOk bank && dataBinOk sh phase block) NoBin
+      ∷ []
+  callTests (integrate cell) =
+      test (ltb cell (sh .cells)) NoCell
+      ∷ test (eqb ((unitAt sh cell r) .cell .held .occupied) 1) NothingHeld
+      ∷ []
+  callTests (emit cell bank bin out) =
+      test (ltb cell (sh .cells)) NoCell
+      ∷ test (bankOk bank && ltb bin (sh .bins)) NoBin
+      ∷ test (eqb ((binAt (binIndex (sh .bins) bank bin) ((unitAt sh cell r) .cell)) .state) ready) NotReady
+      ∷ test (leb (frameLength accumulated (sh .lags)) (length out)) ShortBuffer
+      ∷ []
+  callTests (reading cell lag loss) =
+      test (ltb cell (sh .cells)) NoCell
+      ∷ test (ltb lag (sh .lags) && (leb 1 loss && leb loss lossCount)) NoLag
+      ∷ []
+
+  unfoldable pub verdict : (words : ℕ) → Call → Verdict
+  verdict words call = firstOf (hostTests sh words ++ callTests call)
+
+-- what a call leaves: its answer, the lent frame buffer, and the run
+pub record Step : Type 0 where
+  pub answer : Answer
+  pub out : List ℕ
+  pub run : Run
+
+-- Tick, all cells: "X byte and a Y byte for each cell in turn"
+unfoldable pub tickUnits : (t : ℕ) (samples : List ℕ) → List Unit → List Unit
+tickUnits t samples [] = []
+tickUnits t samples (u ∷ us) =
+    record {
+      cell = tickCell t (u .cell);
+      frames = u .frames;
+      xs = getD samples 0 0 ∷ u .xs;
+      ys = getD samples 1 0 ∷ u .ys;
+    }
+    ∷ tickUnits t (drop 2 samples) us
+
+-- the cells held off
+unfoldable pub heldOff : List Unit → ℕ
+heldOff [] = 0
+heldOff (u ∷ us) = cond (hasRoom (u .cell)) 0 1 + heldOff us
+
+-- the run with the places of cell c as a dump or an integration leaves them
+unfoldable pub withCell : Shape → (c : ℕ) → Cell Ticks → Run → Run
+withCell sh c places r =
+    let u = unitAt sh c r in
+    record {
+      t = r .t;
+      units = set (r .units) c (record { cell = places; frames = u .frames; xs = u .xs; ys = u .ys });
+    }
+
+-- what an emission of a bin of cell c sends
+unfoldable pub emitted : Shape → (c bank bin : ℕ) → Run → Emitted
+emitted sh c bank bin r =
+    record {
+      bank = bank;
+      bin = bin;
+      content = (binAt (binIndex (sh .bins) bank bin) ((unitAt sh c r) .cell)) .content;
+    }
+
+-- the run with that bin emptied and its set among the frames: "its set becomes that of a frame"
+unfoldable pub withFrame : Shape → (c bank bin : ℕ) → Run → Run
+withFrame sh c bank bin r =
+    let u = unitAt sh c r in
+    record {
+      t = r .t;
+      units =
+          set (r .units) c
+          (record {
+            cell = emptyBin (binIndex (sh .bins) bank bin) (u .cell);
+            frames = emitted sh c bank bin r ∷ u .frames;
+            xs = u .xs;
+            ys = u .ys;
+          });
+    }
+
+abbrev pub moved : Shape → (c : ℕ) → Result Ticks → Run → Step
+moved sh c x r = record { answer = number (x .answer); out = []; run = withCell sh c (x .cell) r }
+
+-- what an accepted call does
+unfoldable pub accepted : Shape → Call → Run → Step
+accepted sh (tick samples) r =
+    record {
+      answer = number (heldOff (r .units));
+      out = [];
+      run = record { t = suc (r .t); units = tickUnits (r .t) samples (r .units) };
+    }
+accepted sh (dump c command bank phase block) r =
+    moved sh c (dumpCell (dumpLabel sh command bank phase block) (r .t) ((unitAt sh c r) .cell)) r
+accepted sh (integrate c) r = moved sh c (integrateCell (sh .bins) ((unitAt sh c r) .cell)) r
+accepted sh (emit c bank bin out) r =
+    let u = unitAt sh c r in
+    record {
+      answer = number (frameLength accumulated (sh .lags));
+      out = splice out 0 (setFrame sh c (u .xs) (u .ys) (emitted sh c bank bin r));
+      run = withFrame sh c bank bin r;
+    }
+accepted sh (reading c lag loss) r =
+    let u = unitAt sh c r in
+    record {
+      answer = entry (setSums (sh .lags) (u .xs) (u .ys) (getD (u .cell .losses) (loss - 1) []) lag);
+      out = [];
+      run = r;
+    }
+
+-- a call with its own shape and length of work memory. "Reading, and every refused call: nothing changes."
+unfoldable pub step : Shape → (words : ℕ) → Call → Run → Step
+step sh words call r =
+    judged (verdict sh r words call)
+    (λ no. record { answer = refused no; out = lentTo call; run = r })
+    (accepted sh call r)

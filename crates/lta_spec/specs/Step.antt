@@ -1,0 +1,211 @@
+-- What a call makes of work memory: the refusals in their order, then what is done. What the contracts of the calls
+-- cite.
+use Prim.Native.Nat.{ℕ, zero, suc, _+_, _*_, _-_, _≤_}
+use mathlib.Core.Path.{_≡_}
+use mathlib.Core.Bool.{Bool, true, cond, not, _&&_}
+use mathlib.Core.List.{List, [], _∷_, _++_}
+use lib.Dec.{leb, ltb, eqb}
+use lib.ListN.{length, getD, set, drop}
+use Rattle.lta_spec.specs.Words.{splice}
+use Rattle.lta_spec.specs.Refusals.{Test, test, firstOf, judged}
+use Rattle.lta_spec.specs.Shape.{shapeOk, runLimit, openLimit}
+use Rattle.lta_spec.specs.Size.{memoryWords, hostTests}
+use Rattle.lta_spec.specs.Place.{Label, Stamped, Cell, Result, ready, lossCount}
+use Rattle.lta_spec.specs.Frame.{accumulated, frameLength, frameOf, lagWords, header}
+use Rattle.lta_spec.specs.Call.{
+  Call,
+  Answer,
+  lentTo,
+  commandOk,
+  dumpLabel,
+  dataBinOk,
+  bankOk,
+  binIndex,
+  emittedFields,
+}
+use Rattle.lta_spec.specs.Call.Call.{tick, dump, integrate, emit, reading}
+use Rattle.lta_spec.specs.Call.Answer.{refused, number, entry}
+use Rattle.lta_spec.specs.Row.{ticksOf, edgeOf, centreOf, rowLags, rowSums}
+use Rattle.lta_spec.specs.Engine.{
+  Row,
+  Unit,
+  lossAt,
+  binAt,
+  hasRoom,
+  tickUnit,
+  dumpCell,
+  integrateCell,
+  emptyBin,
+  freshUnit,
+}
+use Rattle.lta_spec.specs.Damage.{tickSound, dumpSound, integrateSound, emitSound, readSound, forecastSound}
+use Rattle.lta_spec.specs.Memory.{Run, runL, start}
+use Rattle.lta_spec.specs.declared.Shape.{Shape}
+use Rattle.lta_spec.specs.declared.Refusal.the-variants.{
+  BadShape,
+  WrongSamples,
+  RunFull,
+  NoCell,
+  BadCommand,
+  NoBin,
+  NothingHeld,
+  NotReady,
+  ShortBuffer,
+  Damaged,
+  NoLag,
+}
+use Rattle.lta_spec.specs.declared.Verdict.{Verdict}
+use Rattle.lta_spec.specs.declared.Verdict.the-variants as says
+use Rattle.lta_spec.specs.declared.Needed.{Needed}
+use Rattle.lta_spec.specs.declared.Needed.the-variants as needed
+use Rattle.lta_spec.specs.declared.Started.{Started}
+use Rattle.lta_spec.specs.declared.Started.the-variants as started
+use Rattle.lta_spec.specs.declared.Forecast.{Forecast}
+use Rattle.lta_spec.specs.declared.Forecast.the-variants as forecast
+
+-- how many words a shape needs
+abbrev pub neededAnswer : Shape → Needed
+neededAnswer sh = cond (shapeOk sh) (needed.Words (memoryWords sh)) (needed.Refused BadShape)
+
+abbrev pub setupAnswer : Shape → (mem : List ℕ) → Started
+setupAnswer sh mem = judged (firstOf (hostTests sh (length mem))) started.Refused started.Fresh
+
+abbrev pub setupLeaves : Shape → (mem : List ℕ) → List ℕ
+setupLeaves sh mem = judged (firstOf (hostTests sh (length mem))) (λ r. mem) ((runL sh) .put (start sh))
+
+-- what an accepted call answers, and leaves of the frame buffer and of the run
+pub record Done : Type 0 where
+  pub answer : Answer
+  pub out : List ℕ
+  pub run : Run
+
+module _ (sh : Shape) where
+  abbrev pub unitAt : (c : ℕ) → Run → Unit
+  unitAt c r = getD (r .units) c (freshUnit (sh .lags) (sh .bins))
+
+  abbrev pub cellAt : (c : ℕ) → Run → Cell Row
+  cellAt c r = (unitAt c r) .cell
+
+  -- 11: "t is above 2,147,483,648, or in the parts tested .."
+  abbrev pub soundAt : (sound : Bool) → Run → Test
+  soundAt sound r = test (leb (r .t) runLimit && sound) Damaged
+
+  unfoldable pub unitsSound : (t : ℕ) → List Unit → Bool
+  unitsSound t [] = true
+  unitsSound t (u ∷ us) = tickSound (sh .lags) t u && unitsSound t us
+
+  -- each call's refusals behind 1 and 2, in document 01's order
+  abbrev pub callTests : Call → Run → List Test
+  callTests (tick samples) r =
+      test (eqb (length samples) (2 * sh .cells)) WrongSamples
+      ∷ test (not (eqb (r .t) runLimit)) RunFull
+      ∷ soundAt (unitsSound (r .t) (r .units)) r
+      ∷ []
+  callTests (dump c command bank phase block) r =
+      test (ltb c (sh .cells)) NoCell
+      ∷ test (commandOk command) BadCommand
+      ∷ test (bankOk bank && dataBinOk sh phase block) NoBin
+      ∷ soundAt (dumpSound (sh .lags) (sh .bins) (r .t) command (cellAt c r)) r
+      ∷ []
+  callTests (integrate c) r =
+      test (ltb c (sh .cells)) NoCell
+      ∷ soundAt (integrateSound (sh .lags) (sh .bins) (r .t) (cellAt c r)) r
+      ∷ test (eqb ((cellAt c r) .held .occupied) 1) NothingHeld
+      ∷ []
+  callTests (emit c bank bin out) r =
+      let k = binIndex (sh .bins) bank bin in
+      test (ltb c (sh .cells)) NoCell
+      ∷ test (bankOk bank && ltb bin (sh .bins)) NoBin
+      ∷ soundAt (emitSound (sh .lags) (r .t) k (cellAt c r)) r
+      ∷ test (eqb ((binAt (sh .lags) k (cellAt c r)) .state) ready) NotReady
+      ∷ test (leb (frameLength accumulated (sh .lags)) (length out)) ShortBuffer
+      ∷ []
+  callTests (reading c lag loss) r =
+      test (ltb c (sh .cells)) NoCell
+      ∷ test (ltb lag (sh .lags) && (leb 1 loss && leb loss lossCount)) NoLag
+      ∷ soundAt (readSound (cellAt c r)) r
+      ∷ []
+
+  unfoldable pub tickUnits : (samples : List ℕ) → List Unit → List Unit
+  tickUnits samples [] = []
+  tickUnits samples (u ∷ us) =
+      tickUnit (sh .lags) (getD samples 0 0) (getD samples 1 0) u ∷ tickUnits (drop 2 samples) us
+
+  unfoldable pub heldOff : List Unit → ℕ
+  heldOff [] = 0
+  heldOff (u ∷ us) = cond (hasRoom (sh .lags) (u .cell)) 0 1 + heldOff us
+
+  -- the run with the places of cell c changed
+  unfoldable pub withCell : (c : ℕ) → Cell Row → Run → Run
+  withCell c places r =
+      let u = unitAt c r in
+      record { t = r .t; units = set (r .units) c (record { cell = places; xs = u .xs; ys = u .ys }) }
+
+  -- the bytes of the frame of a bin's row
+  unfoldable pub rowFrame : (cell bank bin : ℕ) → Stamped Row → List ℕ
+  rowFrame cell bank bin b =
+      let row = b .members in
+      frameOf (header (emittedFields sh cell bank bin (b .stamp) (ticksOf row) (edgeOf row) (centreOf row)))
+      (lagWords (rowLags (ticksOf row) (drop 3 row)))
+
+  -- what an accepted call answers and leaves
+  abbrev pub moved : (c : ℕ) → Result Row → Run → Done
+  moved c x r = record { answer = number (x .answer); out = []; run = withCell c (x .cell) r }
+
+  unfoldable pub accepted : Call → Run → Done
+  accepted (tick samples) r =
+      record {
+        answer = number (heldOff (r .units));
+        out = [];
+        run = record { t = suc (r .t); units = tickUnits samples (r .units) };
+      }
+  accepted (dump c command bank phase block) r =
+      moved c (dumpCell (sh .lags) (dumpLabel sh command bank phase block) (r .t) (cellAt c r)) r
+  accepted (integrate c) r = moved c (integrateCell (sh .lags) (sh .bins) (cellAt c r)) r
+  accepted (emit c bank bin out) r =
+      let k = binIndex (sh .bins) bank bin in
+      record {
+        answer = number (frameLength accumulated (sh .lags));
+        out = splice out 0 (rowFrame c bank bin ((binAt (sh .lags) k (cellAt c r)) .content));
+        run = withCell c (emptyBin (sh .lags) k (cellAt c r)) r;
+      }
+  accepted (reading c lag loss) r =
+      record { answer = entry (rowSums lag (lossAt (sh .lags) (loss - 1) ((cellAt c r) .losses))); out = []; run = r }
+
+  unfoldable pub verdict : (mem : List ℕ) → Call → Verdict
+  verdict mem call = firstOf (hostTests sh (length mem) ++ callTests call ((runL sh) .get mem))
+
+-- what a call leaves: its answer, the lent frame buffer, and work memory
+pub record Step : Type 0 where
+  pub answer : Answer
+  pub out : List ℕ
+  pub mem : List ℕ
+
+-- a call on work memory: "A refusal returns its number alone and changes nothing."
+unfoldable pub step : Shape → Call → (mem : List ℕ) → Step
+step sh call mem =
+    judged (verdict sh mem call)
+    (λ no. record { answer = refused no; out = lentTo call; mem = mem })
+    (let d = accepted sh call ((runL sh) .get mem) in
+    record { answer = d .answer; out = d .out; mem = (runL sh) .put (d .run) })
+
+-- **Forecast**, "refused by 1, 2, 5, 11"
+unfoldable pub forecastVerdict : Shape → (c : ℕ) → (mem : List ℕ) → Verdict
+forecastVerdict sh c mem =
+    let r = (runL sh) .get mem in
+    firstOf
+    (hostTests sh (length mem)
+    ++ test (ltb c (sh .cells)) NoCell
+    ∷ soundAt sh (forecastSound (r .t) (cellAt sh c r)) r
+    ∷ [])
+
+-- "never above 524,288 less the members of Open, and 0 only when none is left; otherwise free"
+pub record Foreseen (opened ticks : ℕ) : Type 0 where
+  pub within : ticks ≤ openLimit - opened
+  pub honest : ticks ≡ 0 → openLimit - opened ≡ 0
+
+unfoldable pub ForecastOk : Shape → (c : ℕ) → (mem : List ℕ) → Verdict → Forecast → Type 0
+ForecastOk sh c mem (says.Refused r) a = a ≡ forecast.Refused r
+ForecastOk sh c mem says.Accepted (forecast.Ticks n) =
+    Foreseen (ticksOf ((cellAt sh c ((runL sh) .get mem)) .opened .members)) n
+ForecastOk sh c mem says.Accepted (forecast.Refused r) = ⊥

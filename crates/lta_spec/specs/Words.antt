@@ -1,0 +1,35 @@
+-- Lists of words: a part, and a list with a part replaced. Lent slices are lists, so contracts cite these.
+use Prim.Native.Nat.{ℕ, zero, suc, _+_}
+use mathlib.Core.Bool.{Bool, true, false, _&&_}
+use mathlib.Core.List.{List, [], _∷_}
+use lib.ListN.{take, drop, replicate}
+
+-- the n words from at
+unfoldable pub part : ℕ → ℕ → List ℕ → List ℕ
+part at n l = take n (drop at l)
+
+-- l with vs in the place of its words from at; what would pass the end is left out
+abbrev pub splice : List ℕ → ℕ → List ℕ → List ℕ
+splice [] at vs = []
+splice (x ∷ l) zero [] = x ∷ l
+splice (x ∷ l) zero (v ∷ vs) = v ∷ splice l zero vs
+splice (x ∷ l) (suc at) vs = x ∷ splice l at vs
+
+-- sums word by word, as many as the shorter list has
+abbrev pub sums : List ℕ → List ℕ → List ℕ
+sums [] ys = []
+sums (x ∷ xs) [] = []
+sums (x ∷ xs) (y ∷ ys) = (x + y) ∷ sums xs ys
+
+abbrev pub zeros : ℕ → List ℕ
+zeros n = replicate n 0
+
+-- every test of a list holds
+abbrev pub all : List Bool → Bool
+all [] = true
+all (b ∷ bs) = b && all bs
+
+-- a test holds of every element
+abbrev pub every : {A : Type 0} → (A → Bool) → List A → Bool
+every f [] = true
+every f (x ∷ xs) = f x && every f xs

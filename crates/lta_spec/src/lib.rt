@@ -1,0 +1,152 @@
+// The types of the calls. What the calls mean is in specs/, in the order of document 01.
+
+// The shape of a run: C, N, B, M, S, R and Z of document 01.
+pub struct Shape {
+    // C: cells, the memo's lag cells.
+    pub cells: u64,
+    // N: lags of a cell.
+    pub lags: u64,
+    // B: data bins of a bank.
+    pub bins: u64,
+    // M: recirculation blocks, the memo's Nblocks.
+    pub blocks: u64,
+    // S: the start block, the memo's Start_Blk_Y.
+    pub start: u64,
+    // R: ticks of a second.
+    pub rate: u64,
+    // Z: the second in which the run starts.
+    pub second: u64,
+}
+
+// Who may be told no: a name for each number of document 01, in the order 1 to 17.
+pub enum Refusal {
+    BadShape,
+    WrongMemory,
+    WrongSamples,
+    RunFull,
+    NoCell,
+    BadCommand,
+    NoBin,
+    NothingHeld,
+    NotReady,
+    ShortBuffer,
+    Damaged,
+    NoLag,
+    WrongLength,
+    WrongMark,
+    WrongSum,
+    BadField,
+    BadRecord,
+}
+
+// What the ordered tests of a call say.
+pub enum Verdict {
+    Accepted,
+    Refused(Refusal),
+}
+
+// The six losses, in the order 1 to 6.
+pub enum Loss {
+    Ordered,
+    Overrun,
+    Full,
+    Replaced,
+    Wide,
+    Holdoff,
+}
+
+// How many words of work memory a shape needs.
+pub enum Needed {
+    Words(u64),
+    Refused(Refusal),
+}
+
+// Setup.
+pub enum Started {
+    Fresh,
+    Refused(Refusal),
+}
+
+// A tick: the number of cells held off.
+pub enum Ticked {
+    HeldOff(u64),
+    Refused(Refusal),
+}
+
+// A dump or an integration: kept, the loss that it added to, or nothing to do (command 111).
+pub enum Moved {
+    Kept,
+    Lost(Loss),
+    Idle,
+    Refused(Refusal),
+}
+
+// An emission, or a frame written from its fields: the frame's length in bytes.
+pub enum Written {
+    Length(u64),
+    Refused(Refusal),
+}
+
+// The numbers of one loss at one lag.
+pub struct Sums {
+    pub i: i64,
+    pub q: i64,
+    pub ticks: u64,
+    pub edge: u64,
+    pub centre: u64,
+}
+
+// A reading of the ledger.
+pub enum Ledger {
+    Entry(Sums),
+    Refused(Refusal),
+}
+
+// A forecast: ticks that a cell may still take.
+pub enum Forecast {
+    Ticks(u64),
+    Refused(Refusal),
+}
+
+// The fields of a frame's header words.
+pub struct Fields {
+    // The memo's frame type: 2, a frame of the accumulator.
+    pub kind: u32,
+    pub cell: u32,
+    // Y block, the memo's RECIRC_BLK-Y.
+    pub block: u32,
+    pub bin: u32,
+    pub bank: u32,
+    pub ticks: u32,
+    pub centre: u32,
+    pub edge: u32,
+    // W5: the second of the stamp.
+    pub second: u32,
+    // W6: the ticks of the stamp within its second.
+    pub offset: u32,
+}
+
+// The most that one tick adds to a sum, in size: 7 × 7 × 2.
+pub const PEAK: u32 = 98;
+
+// The two bytes that stand before every frame.
+pub const MARK: [u8; 2] = [0x4c, 0x54];
+
+// What the frame reader answers.
+pub enum Parsed {
+    Frame(Fields),
+    Refused(Refusal),
+}
+
+// Real and imaginary part of one normalised lag.
+pub struct Complex {
+    pub re: f64,
+    pub im: f64,
+}
+
+// A normalised lag, or no data where the centre count is 0.
+pub enum Normalised {
+    Lag(Complex),
+    NoData,
+    Refused(Refusal),
+}
