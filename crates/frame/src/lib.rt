@@ -25,6 +25,7 @@ ghost use mathlib.Core.Path.{_≡_};
 ghost use mathlib.Core.Bool.{true};
 ghost use Prim.Native.Nat.{ℕ, _+_, _*_, _<_, _≤_};
 ghost use lib.ListN.{length};
+ghost use Rattle.lta_spec.specs.Answer.{parsedAs, writtenAs, normalisedAs};
 ghost use Rattle.lta_spec.specs.Words.{splice};
 ghost use Rattle.lta_spec.specs.Bytes.{bytesOf, wordsOf};
 ghost use Rattle.lta_spec.specs.Frame.{sealed, lagWords, header, fieldsOk};
@@ -90,7 +91,7 @@ fn read_verdict(n: u64, bytes: &[u8]) -> Verdict
 
 // The fields of a frame.
 pub fn read_frame(n: u64, bytes: &[u8]) -> Parsed
-    ensures { λ r. ⌜ r ≡ readAnswer n (now (bytes .entry)) ⌝ }
+    ensures { λ r. ⌜ parsedAs r ≡ readAnswer n (now (bytes .entry)) ⌝ }
 {
     match read_verdict(n, bytes) {
         Verdict::Refused(r) => Parsed::Refused(r),
@@ -149,7 +150,7 @@ fn put_body(body: &mut [u8], f: Fields, lags: &[i32])
 
 // The frame of the fields and the lag numbers, at the start of out.
 pub fn write_frame(n: u64, f: Fields, lags: &[i32], out: &mut [u8]) -> Written
-    ensures answer { λ r. ⌜ r ≡ writeAnswer n f (now (lags .entry)) (length (now (out .entry))) ⌝ }
+    ensures answer { λ r. ⌜ writtenAs r ≡ writeAnswer n f (now (lags .entry)) (length (now (out .entry))) ⌝ }
     ensures leaves { λ _. ⌜ now (out .exit) ≡ writeLeaves n f (now (lags .entry)) (now (out .entry)) ⌝ }
 {
     match write_verdict(n, f, lags, out.len()) {
@@ -189,7 +190,7 @@ fn normal_verdict(n: u64, bytes: &[u8], k: u64) -> Verdict
 
 // Lag k of a frame, normalised by its centre count.
 pub fn normalised_lag(n: u64, bytes: &[u8], k: u64) -> Normalised
-    ensures { λ r. ⌜ r ≡ normalAnswer n (now (bytes .entry)) k ⌝ }
+    ensures { λ r. ⌜ normalisedAs r ≡ normalAnswer n (now (bytes .entry)) k ⌝ }
 {
     match normal_verdict(n, bytes, k) {
         Verdict::Refused(r) => Normalised::Refused(r),

@@ -1,5 +1,5 @@
--- What tests that passed give, and the round trips for every N: a frame written and read back gives its fields and its
--- lags, and an accepted frame rewritten from what was read gives its bytes.
+-- What tests that passed give, and the round trips for every N: a frame written and read back gives its fields and
+-- its lags, and an accepted frame rewritten from what was read gives its bytes.
 use mathlib.Core.Path.{_≡_, refl, sym, ap, _∙_}
 use mathlib.Core.Bool.{true, _&&_}
 use mathlib.Core.List.{List, [], _∷_, _++_, map}
@@ -7,7 +7,7 @@ use Prim.Native.Nat.{ℕ, suc, _+_, _*_, _/_, _%_, _<_, _≤_}
 use native.Mathlib.Omega.{arith}
 use lib.Dec.{leb, ltb, eqb}
 use lib.IntN.{ℤ, pos, negsuc}
-use lib.ListN.{length, take, drop, length-drop, length-map}
+use lib.ListN.{length, getD, take, drop, length-drop, length-map}
 use lib.Seq.{drop-drop}
 use mir.Syntax.{w32}
 use mir.Val.{SFits}
@@ -49,7 +49,8 @@ use Rattle.lta_spec.specs.FrameCalls.{
 use Rattle.lta_spec.specs.declared.Fields.{Fields}
 use Rattle.lta_spec.specs.declared.Refusal.the-variants.{NoLag}
 use Rattle.lta_spec.specs.declared.Verdict.the-variants as verdict
-use Rattle.lta_spec.specs.declared.Parsed.the-variants as parsed
+use Rattle.lta_spec.specs.Answer.Answer.{fields}
+use Rattle.lta_spec.specs.RoundTrip.{RoundTrip}
 use Rattle.lta_spec.proofs.WordLaws.{length-part, part-splice-same}
 use Rattle.lta_spec.proofs.TestLaws.{and-both, and-le, pass, pass-both, first-append}
 use Rattle.lta_spec.proofs.ByteLaws.{
@@ -301,7 +302,7 @@ module _ (n : ℕ) (f : Fields) (zs : List ℤ) (room : ℕ) (ok : writeVerdict 
       )
 
   -- its fields
-  pub read-written : readAnswer n (frameOf (header f) (lagWords zs)) ≡ parsed.Frame f
+  pub read-written : readAnswer n (frameOf (header f) (lagWords zs)) ≡ fields f
   read-written = rw (accepts-written, fields-written)
 
 -- the same of the calls: the reader is given the first bytes of the buffer that the writer leaves
@@ -316,7 +317,7 @@ module _
         let room : 0 + length s ≤ length out = omega (arith, writes n f zs (length out) ok .fits) in
         rw (ok, ← l) (part-splice-same out 0 s room)
 
-    pub leaves-read : readAnswer n (take (frameLength (f .kind) n) (writeLeaves n f zs out)) ≡ parsed.Frame f
+    pub leaves-read : readAnswer n (take (frameLength (f .kind) n) (writeLeaves n f zs out)) ≡ fields f
     leaves-read = rw leaves-frame (read-written n f zs (length out) ok)
 
     pub leaves-lags : map signed (wordsOf (lagPart n (take (frameLength (f .kind) n) (writeLeaves n f zs out)))) ≡ zs
@@ -363,3 +364,16 @@ module _ (n : ℕ) (s : List ℕ) (bytes : Below 256 s) (ok : readVerdict n s �
   pub leaves-again : (out : List ℕ) → length s ≤ length out
       → writeLeaves n (fieldsOf (bodyOf s)) (lagNumbers accumulated n (bodyOf s)) out ≡ splice out 0 s
   leaves-again out h = rw (accepts-read (length out) h, frame-read)
+
+-- every element of a list below a bound
+below-all : (k : ℕ) (l : List ℕ) → ((i : ℕ) → getD l i 0 < k) → Below k l
+below-all k [] h = tt
+below-all k (x ∷ l) h = (h 0, below-all k l (λ i. h (suc i)))
+
+pub round-trip : RoundTrip
+round-trip =
+    record {
+      fields-back = leaves-read;
+      lags-back = leaves-lags;
+      bytes-back = λ n s out bytes ok room. leaves-again n s (below-all 256 s bytes) ok out room;
+    }

@@ -1,24 +1,13 @@
--- The calls on a run, their answers, and the rules on their arguments.
+-- The calls on a run, and the rules on their arguments.
 use Prim.Native.Nat.{ℕ, suc, _+_, _*_, _-_, _/_, _%_}
 use mathlib.Core.Bool.{Bool, _||_}
 use mathlib.Core.List.{List, [], _∷_}
 use lib.Dec.{leb, ltb, eqb}
 use Rattle.lta_spec.specs.Words.{all}
-use Rattle.lta_spec.specs.Refusals.{lossNumber}
 use Rattle.lta_spec.specs.Place.{Label}
 use Rattle.lta_spec.specs.Frame.{accumulated}
 use Rattle.lta_spec.specs.declared.Shape.{Shape}
 use Rattle.lta_spec.specs.declared.Fields.{Fields}
-use Rattle.lta_spec.specs.declared.Refusal.{Refusal}
-use Rattle.lta_spec.specs.declared.Sums.{Sums}
-use Rattle.lta_spec.specs.declared.Ticked.{Ticked}
-use Rattle.lta_spec.specs.declared.Ticked.the-variants as ticked
-use Rattle.lta_spec.specs.declared.Moved.{Moved}
-use Rattle.lta_spec.specs.declared.Moved.the-variants as moved
-use Rattle.lta_spec.specs.declared.Written.{Written}
-use Rattle.lta_spec.specs.declared.Written.the-variants as written
-use Rattle.lta_spec.specs.declared.Ledger.{Ledger}
-use Rattle.lta_spec.specs.declared.Ledger.the-variants as ledger
 
 -- a call with its own arguments; shape and work memory stand beside it
 pub data Call : Type 0 where
@@ -35,34 +24,6 @@ lentTo (dump cell command bank phase block) = []
 lentTo (integrate cell) = []
 lentTo (emit cell bank bin out) = out
 lentTo (reading cell lag loss) = []
-
--- an answer by document 01's numbers: a refusal, a number, or the numbers of a loss
-pub data Answer : Type 0 where
-  refused : Refusal → Answer
-  number : ℕ → Answer
-  entry : Sums → Answer
-
--- "a tick, the number of cells held off"
-abbrev pub tickAnswer : Ticked → Answer
-tickAnswer (ticked.HeldOff n) = number n
-tickAnswer (ticked.Refused r) = refused r
-
--- "a dump or integration, the loss number (4 if an old bin was replaced), 0 if kept, 7 for 111"
-abbrev pub moveAnswer : Moved → Answer
-moveAnswer moved.Kept = number 0
-moveAnswer (moved.Lost l) = number (lossNumber l)
-moveAnswer moved.Idle = number 7
-moveAnswer (moved.Refused r) = refused r
-
--- "an emission, the frame's length"
-abbrev pub emitAnswer : Written → Answer
-emitAnswer (written.Length n) = number n
-emitAnswer (written.Refused r) = refused r
-
--- "A reading gives, for one cell, lag and loss number, the I and Q sums, ticks, and both counts."
-abbrev pub readingAnswer : Ledger → Answer
-readingAnswer (ledger.Entry s) = entry s
-readingAnswer (ledger.Refused r) = refused r
 
 -- dump commands, three binary digits: 000, 001, 010, 100, 111
 abbrev pub save : ℕ
@@ -108,7 +69,7 @@ bankOk bank = ltb bank 2
 abbrev pub binIndex : (bins bank bin : ℕ) → ℕ
 binIndex bins bank bin = bank * bins + bin
 
--- the fields of an emitted frame: "Y block, S + (data bin mod M)", "W5: Z + stamp div R. W6: stamp mod R"
+-- the fields of an emitted frame: "Y block, S + (data bin mod M)", "W5: Z + stamp div R. W6: bits 0-28 stamp mod R"
 unfoldable pub emittedFields : Shape → (cell bank bin stamp ticks edge centre : ℕ) → Fields
 emittedFields sh cell bank bin stamp ticks edge centre =
     record {

@@ -22,7 +22,7 @@ isEmpty p = eqb (ticksOf (p .members)) 0
 abbrev pub openOk : (t : ℕ) → Cell Row → Bool
 openOk t c = contentOk openLimit t (c .opened)
 
--- Held but its label: "a flag is none of the listed", "an unoccupied Held isn't empty"
+-- Held but its label: its flag is one of the listed, and "an unoccupied Held .. isn't empty" does not hold
 abbrev pub heldOk : (t : ℕ) → Held Row → Bool
 heldOk t h =
     contentOk openLimit t (h .content) && (leb (h .occupied) 1 && (leb 1 (h .occupied) || isEmpty (h .content)))
@@ -31,7 +31,7 @@ heldOk t h =
 abbrev pub labelOk : (bins : ℕ) → Label → Bool
 labelOk bins l = leb (l .command) last && (bankOk (l .bank) && ltb (l .bin) bins)
 
--- "a state is none of the listed", "a Free bin isn't empty"
+-- a bin: its state is one of the listed, and a Free bin is empty
 abbrev pub binOk : (t : ℕ) → Bin Row → Bool
 binOk t b = contentOk binLimit t (b .content) && (leb (b .state) ready && (leb 1 (b .state) || isEmpty (b .content)))
 

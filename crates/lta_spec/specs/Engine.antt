@@ -1,33 +1,17 @@
--- The engine's definitions: the rules of the plain machine again, on rows of words, with refusal 11. A text of its
--- own, so that demand 3 holds one against the other. n is the lags of a cell, bins the data bins of a bank.
-use Prim.Native.Nat.{ℕ, zero, suc, _+_, _*_, _-_}
-use mathlib.Core.Bool.{Bool, true, false, cond, _&&_, _||_}
-use mathlib.Core.List.{List, [], _∷_, _++_, map}
-use lib.Dec.{leb, ltb, eqb}
-use lib.ListN.{length, getD, set, take, drop, replicate}
-use Rattle.lta_spec.specs.Words.{sums, zeros, every}
-use Rattle.lta_spec.specs.Shape.{openLimit, binLimit, runLimit}
+-- The engine's definitions of one cell: the rules of the plain machine again, on rows of words. A text of its own, so
+-- that demand 3 holds one against the other; refusal 11 is in Damage. n is the lags of a cell, bins the data bins of
+-- a bank.
+use Prim.Native.Nat.{ℕ, _+_, _*_}
+use mathlib.Core.Bool.{Bool, true, false, _&&_}
+use mathlib.Core.List.{List, _∷_, map}
+use lib.Dec.{ltb, eqb}
+use lib.ListN.{getD, set, take, replicate}
+use Rattle.lta_spec.specs.Words.{sums, zeros}
+use Rattle.lta_spec.specs.Shape.{openLimit, binLimit}
 use Rattle.lta_spec.specs.Size.{depth}
-use Rattle.lta_spec.specs.Place.{
-  Label,
-  Stamped,
-  Held,
-  Bin,
-  Cell,
-  Result,
-  free,
-  filling,
-  ready,
-  ordered,
-  overrun,
-  full,
-  replaced,
-  tooWide,
-  holdoff,
-  lossCount,
-}
-use Rattle.lta_spec.specs.Call.{save, last, discard, idle, bankOk, binIndex}
-use Rattle.lta_spec.specs.Row.{ticksOf, emptyRow, tickRow, rowOk, entryWord, fromWord, entryOk}
+use Rattle.lta_spec.specs.Place.{Label, Stamped, Bin, Cell, Result, free, filling, ready, ordered, overrun, full, replaced, tooWide, holdoff, lossCount}
+use Rattle.lta_spec.specs.Call.{save, last, discard, idle, binIndex}
+use Rattle.lta_spec.specs.Row.{ticksOf, emptyRow, tickRow, entryWord, fromWord}
 
 -- a row of words
 abbrev pub Row : Type 0
@@ -171,6 +155,7 @@ module _ (n : ℕ) where
   abbrev pub isReplacing : Bin Row → Cell Row → Bool
   isReplacing b c = eqb (c .held .label .command) save && eqb (b .state) filling
 
+  -- where 000 meets a Free bin the joint set is Held's, and never so wide
   abbrev pub isTooWide : Bin Row → Cell Row → Bool
   isTooWide b c = ltb binLimit (ticksOf (b .content .members) + ticksOf (c .held .content .members))
 

@@ -1,11 +1,11 @@
 -- Document 01, "The frame": its words and bytes, its fields and their rules. The memo's LTA dump data frame, figure
 -- 4-36.
-use Prim.Native.Nat.{ℕ, zero, suc, _+_, _*_, _/_, _%_}
+use Prim.Native.Nat.{ℕ, _+_, _*_, _/_, _%_}
 use mathlib.Core.Bool.{Bool, _&&_}
 use mathlib.Core.List.{List, [], _∷_, _++_, map}
 use lib.Dec.{leb, eqb}
 use lib.IntN.{ℤ, natAbs}
-use lib.ListN.{getD, take, drop}
+use lib.ListN.{getD, drop}
 use Rattle.lta_spec.specs.Words.{part, all, every}
 use Rattle.lta_spec.specs.Shape.{binLimit, peak}
 use Rattle.lta_spec.specs.Bytes.{wordRange, bytesOf, wordsOf, total, numberWord, signed}
@@ -58,7 +58,7 @@ lagNumbers kind n body = map signed (part (headWords kind) (2 * n) body)
 abbrev pub w0 : Fields → ℕ
 w0 f = f .kind + 2048 * f .cell
 
--- "W1: bits 8-15 Y block; bits 16-30 data bin; bit 31 bank; bits 0-7 0."
+-- "W1: bits 8-15 Y block ..; bits 16-30 data bin; bit 31 bank; bits 0-7 0."
 abbrev pub w1 : Fields → ℕ
 w1 f = 256 * f .block + 65536 * f .bin + 2147483648 * f .bank
 

@@ -1,6 +1,6 @@
 -- The calls on frames: reader, lag part, writer, normalised lag. Refusals "1 for N, then 13, 14, 15, 16. Normalising:
 -- 12 last. Writing fields: 1, 16, 10."
-use Prim.Native.Nat.{ℕ, zero, suc, _+_, _*_, _%_}
+use Prim.Native.Nat.{ℕ, _+_, _*_}
 use mathlib.Core.Bool.{Bool, cond, _&&_}
 use mathlib.Core.List.{List, [], _∷_, _++_}
 use lib.Dec.{leb, ltb, eqb}
@@ -9,9 +9,12 @@ use lib.Ieee.{Float, binary64, div, ofInt}
 use lib.ListN.{length, getD, take}
 use Rattle.lta_spec.specs.Words.{part, splice}
 use Rattle.lta_spec.specs.Refusals.{Test, test, firstOf, judged}
+use Rattle.lta_spec.specs.Answer.{Answer, refusal}
+use Rattle.lta_spec.specs.Answer.Answer.{number, fields, normal, noData}
 use Rattle.lta_spec.specs.Shape.{lagCountOk}
 use Rattle.lta_spec.specs.Bytes.{signed}
 use Rattle.lta_spec.specs.Frame.{
+  mark,
   accumulated,
   headWords,
   frameLength,
@@ -31,16 +34,10 @@ use Rattle.lta_spec.specs.declared.Fields.{Fields}
 use Rattle.lta_spec.specs.declared.Refusal.the-variants.{BadShape, ShortBuffer, NoLag}
 use Rattle.lta_spec.specs.declared.Refusal.the-variants.{WrongLength, WrongMark, WrongSum, BadField}
 use Rattle.lta_spec.specs.declared.Verdict.{Verdict}
-use Rattle.lta_spec.specs.declared.Parsed.{Parsed}
-use Rattle.lta_spec.specs.declared.Parsed.the-variants as parsed
-use Rattle.lta_spec.specs.declared.Written.{Written}
-use Rattle.lta_spec.specs.declared.Written.the-variants as written
-use Rattle.lta_spec.specs.declared.Normalised.{Normalised}
-use Rattle.lta_spec.specs.declared.Normalised.the-variants as normalised
 
 -- 14: the bytes start with the mark
 unfoldable pub marked : (s : List ℕ) → Bool
-marked s = eqb (getD s 0 0) 76 && eqb (getD s 1 0) 84
+marked s = eqb (getD s 0 0) (getD mark 0 0) && eqb (getD s 1 0) (getD mark 1 0)
 
 -- 15: the word behind the first k is their sum
 unfoldable pub summed : (k : ℕ) (body : List ℕ) → Bool
@@ -64,8 +61,8 @@ unfoldable pub readVerdict : (n : ℕ) (s : List ℕ) → Verdict
 readVerdict n s = firstOf (readTests n s)
 
 -- the reader returns the fields
-abbrev pub readAnswer : (n : ℕ) (s : List ℕ) → Parsed
-readAnswer n s = judged (readVerdict n s) parsed.Refused (parsed.Frame (fieldsOf (bodyOf s)))
+abbrev pub readAnswer : (n : ℕ) (s : List ℕ) → Answer
+readAnswer n s = judged (readVerdict n s) refusal (fields (fieldsOf (bodyOf s)))
 
 -- "the part of the caller's bytes that holds the lag pairs", "the empty part where the reader refuses"
 abbrev pub lagPart : (n : ℕ) (s : List ℕ) → List ℕ
@@ -81,9 +78,9 @@ writeVerdict n f zs room =
     ∷ [])
 
 -- the writer "answers the frame's length"
-abbrev pub writeAnswer : (n : ℕ) → Fields → List ℤ → (room : ℕ) → Written
+abbrev pub writeAnswer : (n : ℕ) → Fields → List ℤ → (room : ℕ) → Answer
 writeAnswer n f zs room =
-    judged (writeVerdict n f zs room) written.Refused (written.Length (frameLength (f .kind) n))
+    judged (writeVerdict n f zs room) refusal (number (frameLength (f .kind) n))
 
 -- what it leaves in the buffer: "bytes of any lent buffer past what a call writes keep their contents"
 abbrev pub writeLeaves : (n : ℕ) → Fields → List ℤ → (out : List ℕ) → List ℕ
@@ -95,11 +92,11 @@ abbrev pub quotient : ℤ → ℕ → Float
 quotient z count = div binary64 (ofInt binary64 z) (ofInt binary64 (pos count))
 
 -- lag k of the words behind the mark, I and Q each divided by the centre count; "if that count is 0, no data"
-abbrev pub normalOf : (body : List ℕ) (k : ℕ) → Normalised
+abbrev pub normalOf : (body : List ℕ) (k : ℕ) → Answer
 normalOf ws k =
     cond (eqb (getD ws 3 0) 0)
-    normalised.NoData
-    (normalised.Lag
+    noData
+    (normal
     (record {
       re = quotient (signed (getD ws (headWords accumulated + 2 * k) 0)) (getD ws 3 0);
       im = quotient (signed (getD ws (headWords accumulated + 2 * k + 1) 0)) (getD ws 3 0);
@@ -108,5 +105,5 @@ normalOf ws k =
 unfoldable pub normalVerdict : (n : ℕ) (s : List ℕ) (k : ℕ) → Verdict
 normalVerdict n s k = firstOf (readTests n s ++ test (ltb k n) NoLag ∷ [])
 
-abbrev pub normalAnswer : (n : ℕ) (s : List ℕ) (k : ℕ) → Normalised
-normalAnswer n s k = judged (normalVerdict n s k) normalised.Refused (normalOf (bodyOf s) k)
+abbrev pub normalAnswer : (n : ℕ) (s : List ℕ) (k : ℕ) → Answer
+normalAnswer n s k = judged (normalVerdict n s k) refusal (normalOf (bodyOf s) k)

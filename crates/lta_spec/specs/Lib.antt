@@ -3,11 +3,13 @@ pub mod Words
 pub mod Refusals
 pub mod Shape
 pub mod Size
+pub mod Answer
 pub mod Tick
 pub mod Place
 pub mod Bytes
 pub mod Frame
 pub mod FrameCalls
+pub mod RoundTrip
 pub mod Call
 pub mod Machine
 pub mod Numbers
@@ -19,3 +21,4 @@ pub mod Layout
 pub mod Memory
 pub mod Step
 pub mod Edges
+pub mod Demand

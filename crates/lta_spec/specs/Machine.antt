@@ -5,7 +5,7 @@ use mathlib.Core.List.{List, [], _∷_, _++_}
 use lib.Dec.{ltb, eqb}
 use lib.ListN.{length, getD, set, replicate}
 use Rattle.lta_spec.specs.Shape.{openLimit, binLimit}
-use Rattle.lta_spec.specs.Place.{Label, Stamped, Held, Bin, Cell, Result, free, filling, ready}
+use Rattle.lta_spec.specs.Place.{Label, Stamped, Bin, Cell, Result, free, filling, ready}
 use Rattle.lta_spec.specs.Place.{ordered, overrun, full, replaced, tooWide, holdoff, lossCount}
 use Rattle.lta_spec.specs.Call.{save, last, discard, idle, binIndex}
 
@@ -64,7 +64,7 @@ dumpBy false false false l t c = record { answer = 0; cell = holdOpen l t c }
 unfoldable pub dumpCell : Label → (t : ℕ) → Cell Ticks → Result Ticks
 dumpCell l t c = dumpBy (eqb (l .command) idle) (eqb (l .command) discard) (eqb (c .held .occupied) 1) l t c
 
--- **Integrate.** Held "becomes unoccupied", and "an emptied Held keeps its label and stamp"; bin k and the losses
+-- **Integrate.** Held "becomes unoccupied", and keeps its label and stamp; bin k and the losses
 -- become b and ls.
 unfoldable pub release : (k : ℕ) → Bin Ticks → List Ticks → Cell Ticks → Cell Ticks
 release k b ls c =
@@ -124,6 +124,7 @@ freeBin = record { state = free; content = stamped [] 0 }
 unfoldable pub binAt : (k : ℕ) → Cell Ticks → Bin Ticks
 binAt k c = getD (c .bins) k freeBin
 
+-- (With 000 on a Free bin the joint set is Held's, and never so wide.)
 unfoldable pub integrateAt : (k : ℕ) → Bin Ticks → Cell Ticks → Result Ticks
 integrateAt k b c =
     integrateBy (eqb (b .state) ready)
@@ -134,7 +135,8 @@ unfoldable pub integrateCell : (bins : ℕ) → Cell Ticks → Result Ticks
 integrateCell bins c =
     let k = binIndex bins (c .held .label .bank) (c .held .label .bin) in integrateAt k (binAt k c) c
 
--- **Emit** "a named Ready bin: .. the bin Free and empty"; "an emptied bin keeps its stamp".
+-- **Emit** "a named Ready bin: .. the bin Free and empty"; "An emptied Held keeps its label and stamp, an emptied bin
+-- its stamp."
 unfoldable pub emptyBin : (k : ℕ) → Cell Ticks → Cell Ticks
 emptyBin k c =
     record {

@@ -11,9 +11,10 @@ use Rattle.lta_spec.specs.Shape.{runLimit}
 use Rattle.lta_spec.specs.Size.{hostTests}
 use Rattle.lta_spec.specs.Place.{Cell, Result, ready, lossCount}
 use Rattle.lta_spec.specs.Frame.{accumulated, frameLength}
-use Rattle.lta_spec.specs.Call.{Call, Answer, lentTo, commandOk, dumpLabel, dataBinOk, bankOk, binIndex}
+use Rattle.lta_spec.specs.Call.{Call, lentTo, commandOk, dumpLabel, dataBinOk, bankOk, binIndex}
 use Rattle.lta_spec.specs.Call.Call.{tick, dump, integrate, emit, reading}
-use Rattle.lta_spec.specs.Call.Answer.{refused, number, entry}
+use Rattle.lta_spec.specs.Answer.{Answer, refusal}
+use Rattle.lta_spec.specs.Answer.Answer.{number, entry}
 use Rattle.lta_spec.specs.Machine.{Ticks, hasRoom, tickCell, dumpCell, integrateCell, binAt, emptyBin, freshCell}
 use Rattle.lta_spec.specs.Numbers.{Emitted, setSums, setFrame}
 use Rattle.lta_spec.specs.declared.Shape.{Shape}
@@ -22,7 +23,7 @@ use Rattle.lta_spec.specs.declared.Refusal.the-variants.{NothingHeld, No
 use Rattle.lta_spec.specs.declared.Verdict.{Verdict}
 
 -- One cell of a run: its places, its emitted frames, newest first, and the X and Y bytes of the accepted ticks,
--- newest first, from which "all numbers follow"
+-- newest first, from which all numbers follow
 pub record Unit : Type 0 where
   pub cell : Cell Ticks
   pub frames : List Emitted
@@ -164,5 +165,5 @@ accepted sh (reading c lag loss) r =
 unfoldable pub step : Shape → (words : ℕ) → Call → Run → Step
 step sh words call r =
     judged (verdict sh r words call)
-    (λ no. record { answer = refused no; out = lentTo call; run = r })
+    (λ why. record { answer = refusal why; out = lentTo call; run = r })
     (accepted sh call r)

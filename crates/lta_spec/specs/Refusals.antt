@@ -46,7 +46,7 @@ pub record Test : Type 0 where
 abbrev pub test : Bool → Refusal → Test
 test b r = record { passes = b; otherwise = r }
 
--- "the first refusal number that applies"
+-- the first refusal that applies: "Where several apply, the order stands after each group."
 abbrev pub firstOf : List Test → Verdict
 firstOf [] = Accepted
 firstOf (x ∷ xs) = cond (x .passes) (firstOf xs) (Refused (x .otherwise))

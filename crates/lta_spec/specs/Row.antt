@@ -1,11 +1,11 @@
 -- A row of words: the numbers of a place as the engine keeps them. Ticks, edge count, centre count, then I and Q of
 -- each lag, each sum biased: sum + 98 × ticks, as the memo's accumulators are (4.2.2.2.5, DATA_BIAS). A cleared row
 -- is the row of no tick.
-use Prim.Native.Nat.{ℕ, zero, suc, _+_, _*_, _-_, _/_, _%_}
+use Prim.Native.Nat.{ℕ, zero, suc, _+_, _*_, _/_, _%_}
 use mathlib.Core.Bool.{Bool, cond, not, _&&_}
 use mathlib.Core.List.{List, [], _∷_}
 use lib.Dec.{leb, ltb, eqb}
-use lib.IntN.{ℤ, pos, negsuc, natAbs, _+ℤ_, _-ℤ_}
+use lib.IntN.{ℤ, pos, natAbs, _+ℤ_, _-ℤ_}
 use lib.ListN.{getD, drop}
 use Rattle.lta_spec.specs.Words.{zeros, every}
 use Rattle.lta_spec.specs.Shape.{peak}

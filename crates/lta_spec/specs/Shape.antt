@@ -1,5 +1,5 @@
 -- Document 01, "Shape of a run", and the ceilings on ticks.
-use Prim.Native.Nat.{ℕ, _+_, _*_, _%_}
+use Prim.Native.Nat.{ℕ, _+_, _%_}
 use mathlib.Core.Bool.{Bool}
 use mathlib.Core.List.{List, [], _∷_}
 use lib.Dec.{leb, eqb}
@@ -10,8 +10,9 @@ use Rattle.lta_spec.specs.declared.Shape.{Shape}
 unfoldable pub lagCountOk : ℕ → Bool
 lagCountOk n = all (leb 2 n ∷ leb n 128 ∷ eqb (n % 2) 0 ∷ [])
 
--- "C cells (1 to 16), N lags per cell, B data bins per bank (1 to 1,000), M recirculation blocks (1 to 256) with
--- start block S (S + M at most 256), R ticks per second (1 to 256,000,000) and start second Z (0 to 2,147,483,647)"
+-- "C cells (1 to 16), N lags per cell .., B data bins per bank (1 to 1,000 ..), M recirculation blocks (1 to 256)
+-- with start block S (S + M at most 256), R ticks per second (1 to 256,000,000) and start second Z (0 to
+-- 2,147,483,647)"
 abbrev pub shapeTests : Shape → List Bool
 shapeTests s =
     leb 1 (s .cells)

@@ -1,6 +1,6 @@
 -- What a call makes of work memory: the refusals in their order, then what is done. What the contracts of the calls
 -- cite.
-use Prim.Native.Nat.{ℕ, zero, suc, _+_, _*_, _-_, _≤_}
+use Prim.Native.Nat.{ℕ, suc, _+_, _*_, _-_, _≤_}
 use mathlib.Core.Path.{_≡_}
 use mathlib.Core.Bool.{Bool, true, cond, not, _&&_}
 use mathlib.Core.List.{List, [], _∷_, _++_}
@@ -10,11 +10,10 @@ use Rattle.lta_spec.specs.Words.{splice}
 use Rattle.lta_spec.specs.Refusals.{Test, test, firstOf, judged}
 use Rattle.lta_spec.specs.Shape.{shapeOk, runLimit, openLimit}
 use Rattle.lta_spec.specs.Size.{memoryWords, hostTests}
-use Rattle.lta_spec.specs.Place.{Label, Stamped, Cell, Result, ready, lossCount}
+use Rattle.lta_spec.specs.Place.{Stamped, Cell, Result, ready, lossCount}
 use Rattle.lta_spec.specs.Frame.{accumulated, frameLength, frameOf, lagWords, header}
 use Rattle.lta_spec.specs.Call.{
   Call,
-  Answer,
   lentTo,
   commandOk,
   dumpLabel,
@@ -24,7 +23,8 @@ use Rattle.lta_spec.specs.Call.{
   emittedFields,
 }
 use Rattle.lta_spec.specs.Call.Call.{tick, dump, integrate, emit, reading}
-use Rattle.lta_spec.specs.Call.Answer.{refused, number, entry}
+use Rattle.lta_spec.specs.Answer.{Answer, refusal}
+use Rattle.lta_spec.specs.Answer.Answer.{refused, number, entry, fields, normal, noData}
 use Rattle.lta_spec.specs.Row.{ticksOf, edgeOf, centreOf, rowLags, rowSums}
 use Rattle.lta_spec.specs.Engine.{
   Row,
@@ -55,20 +55,15 @@ use Rattle.lta_spec.specs.declared.Refusal.the-variants.{
   NoLag,
 }
 use Rattle.lta_spec.specs.declared.Verdict.{Verdict}
-use Rattle.lta_spec.specs.declared.Verdict.the-variants as says
-use Rattle.lta_spec.specs.declared.Needed.{Needed}
-use Rattle.lta_spec.specs.declared.Needed.the-variants as needed
-use Rattle.lta_spec.specs.declared.Started.{Started}
-use Rattle.lta_spec.specs.declared.Started.the-variants as started
-use Rattle.lta_spec.specs.declared.Forecast.{Forecast}
-use Rattle.lta_spec.specs.declared.Forecast.the-variants as forecast
+use Rattle.lta_spec.specs.declared.Verdict.the-variants.{Accepted, Refused}
 
 -- how many words a shape needs
-abbrev pub neededAnswer : Shape → Needed
-neededAnswer sh = cond (shapeOk sh) (needed.Words (memoryWords sh)) (needed.Refused BadShape)
+abbrev pub sizeAnswer : Shape → Answer
+sizeAnswer sh = cond (shapeOk sh) (number (memoryWords sh)) (refusal BadShape)
 
-abbrev pub setupAnswer : Shape → (mem : List ℕ) → Started
-setupAnswer sh mem = judged (firstOf (hostTests sh (length mem))) started.Refused started.Fresh
+-- setup
+abbrev pub setupAnswer : Shape → (mem : List ℕ) → Answer
+setupAnswer sh mem = judged (firstOf (hostTests sh (length mem))) refusal (number 0)
 
 abbrev pub setupLeaves : Shape → (mem : List ℕ) → List ℕ
 setupLeaves sh mem = judged (firstOf (hostTests sh (length mem))) (λ r. mem) ((runL sh) .put (start sh))
@@ -185,7 +180,7 @@ pub record Step : Type 0 where
 unfoldable pub step : Shape → Call → (mem : List ℕ) → Step
 step sh call mem =
     judged (verdict sh mem call)
-    (λ no. record { answer = refused no; out = lentTo call; mem = mem })
+    (λ why. record { answer = refusal why; out = lentTo call; mem = mem })
     (let d = accepted sh call ((runL sh) .get mem) in
     record { answer = d .answer; out = d .out; mem = (runL sh) .put (d .run) })
 
@@ -204,8 +199,19 @@ pub record Foreseen (opened ticks : ℕ) : Type 0 where
   pub within : ticks ≤ openLimit - opened
   pub honest : ticks ≡ 0 → openLimit - opened ≡ 0
 
-unfoldable pub ForecastOk : Shape → (c : ℕ) → (mem : List ℕ) → Verdict → Forecast → Type 0
-ForecastOk sh c mem (says.Refused r) a = a ≡ forecast.Refused r
-ForecastOk sh c mem says.Accepted (forecast.Ticks n) =
-    Foreseen (ticksOf ((cellAt sh c ((runL sh) .get mem)) .opened .members)) n
-ForecastOk sh c mem says.Accepted (forecast.Refused r) = ⊥
+-- the answer where no refusal applies
+abbrev pub Forecasts : (opened : ℕ) → Answer → Type 0
+Forecasts opened (number ticks) = Foreseen opened ticks
+Forecasts opened (refused k) = ⊥
+Forecasts opened (entry e) = ⊥
+Forecasts opened (fields f) = ⊥
+Forecasts opened (normal z) = ⊥
+Forecasts opened noData = ⊥
+
+abbrev pub ForecastBy : Verdict → (opened : ℕ) → Answer → Type 0
+ForecastBy (Refused r) opened a = a ≡ refusal r
+ForecastBy Accepted opened a = Forecasts opened a
+
+unfoldable pub ForecastOk : Shape → (c : ℕ) → (mem : List ℕ) → Answer → Type 0
+ForecastOk sh c mem a =
+    ForecastBy (forecastVerdict sh c mem) (ticksOf ((cellAt sh c ((runL sh) .get mem)) .opened .members)) a

@@ -1,7 +1,6 @@
 -- The verdict of the reader, and where that is Accepted the test of the lag.
 use mathlib.Core.Path.{sym, _∙_}
 use borrow.Author.Tests.{lt-ltb, le-ltb}
-use Rattle.lta_spec.specs.declared.Verdict.the-variants as verdict
 use Rattle.lta_spec.proofs.RoundTrips.{normal-follows}
 use borrow.Author.Needs.{needs}
 use Rattle.frame.proofs.normal_verdict.Statement.{statement}

@@ -5,7 +5,6 @@ use lib.ListN.{length-drop}
 use denote.Ref.{now}
 use Rattle.lta_spec.specs.FrameCalls.{readVerdict}
 use Rattle.lta_spec.specs.declared.Verdict.the-variants as verdict
-use Rattle.lta_spec.specs.declared.Parsed.the-variants as parsed
 use Rattle.lta_spec.proofs.RoundTrips.{Accepted, accepted}
 use Rattle.frame.proofs.Laws.{rest-lent}
 use borrow.Author.Needs.{needs}

@@ -10,7 +10,7 @@ use Rattle.lta_spec.specs.Bytes.{bytesOf}
 use Rattle.lta_spec.specs.Frame.{sealed, frameOf, lagWords, header}
 use Rattle.lta_spec.specs.FrameCalls.{writeVerdict}
 use Rattle.lta_spec.specs.declared.Verdict.the-variants as verdict
-use Rattle.lta_spec.specs.declared.Written.the-variants as written
+use Rattle.lta_spec.specs.Answer.Answer.{number}
 use Rattle.lta_spec.proofs.WordLaws.{length-splice}
 use Rattle.lta_spec.proofs.RoundTrips.{Writes, writes, count-small}
 use Rattle.frame.proofs.Laws.{markedOut, tail-lent, tail-back, frame-left}
@@ -111,7 +111,7 @@ same-length c =
 returns-2 : tie.Need-returns-2
 unfolding markedOut
 returns-2 c =
-    rw (told (c .before .before .before .before)) (ap written.Length (omega arith), left c)
+    rw (told (c .before .before .before .before)) (ap number (omega arith), left c)
 
 pub write-frame-spec : {M : Type 1} → statement M
 write-frame-spec =

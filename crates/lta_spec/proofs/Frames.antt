@@ -1,0 +1,216 @@
+-- Emitted frames: the bytes that the calls left in their buffers are, at the end, those of the machine's sets of
+-- frames.
+use Prim.Native.Nat.{ℕ, zero, suc, _*_, _≤_, _<_}
+use mathlib.Core.Path.{_≡_, refl, sym, ap, ap₂, _∙_, subst}
+use mathlib.Core.Bool.{Bool, true, false, _&&_}
+use mathlib.Core.List.{List, [], _∷_, _++_, map, append-assoc}
+use native.Mathlib.Nat.{not-suc-le-zero, le-of-suc-le-suc}
+use native.Mathlib.Omega.{arith}
+use lib.Dec.{ltb, leb, eqb}
+use lib.ListN.{length, getD, set, take, drop, length-map}
+use lib.Seq.{append-snoc, getD-set-same, getD-set-other, take-at}
+use borrow.Author.Tests.{leb-true, eqb-true, eqb-false}
+use Rattle.lta_spec.specs.Refusals.{firstOf, judged}
+use Rattle.lta_spec.specs.Size.{memoryWords}
+use Rattle.lta_spec.specs.Words.{splice}
+use Rattle.lta_spec.specs.Place.{Cell, ready}
+use Rattle.lta_spec.specs.Bytes.{numberWord}
+use Rattle.lta_spec.specs.Frame.{accumulated, frameLength, lagWords, header}
+use Rattle.lta_spec.specs.Call.{Call, lentTo, bankOk, binIndex}
+use Rattle.lta_spec.specs.Call.Call.{tick, dump, integrate, emit, reading}
+use Rattle.lta_spec.specs.Answer.{refusal}
+use Rattle.lta_spec.specs.Answer.Answer.{refused, number}
+use Rattle.lta_spec.specs.Machine as M
+use Rattle.lta_spec.specs.Machine.{Ticks}
+use Rattle.lta_spec.specs.Numbers.{Emitted, lagSums, setFrame}
+use Rattle.lta_spec.specs.MachineRun as R
+use Rattle.lta_spec.specs.Memory as W
+use Rattle.lta_spec.specs.Demand.{Listed, AllStand, machineTells, machineRun, frameIf, frameTold, framesTold}
+use Rattle.lta_spec.specs.Demand.Listed.{usual, odd}
+use Rattle.lta_spec.specs.declared.Shape.{Shape}
+use Rattle.lta_spec.specs.declared.Verdict.{Verdict}
+use Rattle.lta_spec.specs.declared.Verdict.the-variants.{Accepted, Refused}
+use Rattle.lta_spec.proofs.WordLaws.{splice-eq}
+use Rattle.lta_spec.proofs.TestLaws.{pass}
+use Rattle.lta_spec.proofs.FrameLaws.{length-frame}
+use Rattle.lta_spec.proofs.SameRun.{SameRun, frame-same}
+use Rattle.lta_spec.proofs.Follow.{usual-same, accepts, turned}
+
+-- the frames told so far are those of the unit's sets, whatever bytes come later
+abbrev pub Framed : Shape → (c : ℕ) → List (List ℕ) → R.Unit → Type 0
+Framed sh c fs u = (gx gy : List ℕ) → fs ≡ map (setFrame sh c (gx ++ u .xs) (gy ++ u .ys)) (u .frames)
+
+-- a frame's length
+lags-length : (n : ℕ) (xs ys : List ℕ) (s : Ticks) (m k : ℕ) → length (lagSums n xs ys s m k) ≡ 2 * m
+lags-length n xs ys s zero k = refl
+lags-length n xs ys s (suc m) k = omega (arith, lags-length n xs ys s m (suc k))
+
+frame-length : (sh : Shape) (c : ℕ) (xs ys : List ℕ) (e : Emitted)
+    → length (setFrame sh c xs ys e) ≡ frameLength accumulated (sh .lags)
+unfolding setFrame header
+frame-length sh c xs ys e =
+    let zs = lagSums (sh .lags) xs ys (e .content .members) (sh .lags) 0 in
+    length-frame _ (lagWords zs)
+    ∙ omega (arith, length-map zs numberWord, lags-length (sh .lags) xs ys (e .content .members) (sh .lags) 0)
+
+-- what is written at the start of a buffer with room is what stands there
+front : (out fs : List ℕ) (k : ℕ) → length fs ≡ k → k ≤ length out → take k (splice out 0 fs) ≡ fs
+front out fs k e h = rw (splice-eq out 0 fs (omega arith)) (take-at fs _ k e)
+
+-- a tick's bytes join a unit's
+tick-at : (t : ℕ) (samples : List ℕ) (us : List R.Unit) (c : ℕ) (d : R.Unit) → c < length us
+    → (sh : Shape) (fs : List (List ℕ)) → Framed sh c fs (getD us c d) → Framed sh c fs (getD (R.tickUnits t samples us) c d)
+unfolding R.tickUnits
+tick-at t samples us c d h sh fs p = by-list samples us c h p
+  where
+    by-list : (samples : List ℕ) (us : List R.Unit) (k : ℕ) → k < length us → Framed sh c fs (getD us k d)
+        → Framed sh c fs (getD (R.tickUnits t samples us) k d)
+    by-list samples [] k h p = absurd (not-suc-le-zero h)
+    by-list samples (u ∷ us) zero h p = λ gx gy.
+        rw (append-snoc gx (getD samples 0 0) (u .xs), append-snoc gy (getD samples 1 0) (u .ys)) at
+        (p (gx ++ getD samples 0 0 ∷ []) (gy ++ getD samples 1 0 ∷ []))
+    by-list samples (u ∷ us) (suc k) h p = by-list (drop 2 samples) us k (le-of-suc-le-suc h) p
+
+-- one unit of a run is set anew
+set-at : (sh : Shape) (ms : List R.Unit) (c d : ℕ) (u d₀ : R.Unit) (fs gs : List (List ℕ)) → c < length ms
+    → (eqb d c ≡ true → Framed sh c fs u) → (eqb d c ≡ false → fs ≡ gs) → Framed sh c gs (getD ms c d₀)
+    → Framed sh c fs (getD (set ms d u) c d₀)
+set-at sh ms c d u d₀ fs gs h new old p = by-test (eqb d c) refl
+  where
+    by-test : (b : Bool) → eqb d c ≡ b → Framed sh c fs (getD (set ms d u) c d₀)
+    by-test true e =
+        let same : d ≡ c = eqb-true d c e in
+        subst (λ k. Framed sh c fs (getD (set ms k u) c d₀)) (sym same)
+        (subst (Framed sh c fs) (sym (getD-set-same ms c u d₀ h)) (new e))
+    by-test false e =
+        let other : c ≡ d → ⊥ = λ q. eqb-false d c e (sym q) in
+        subst (Framed sh c fs) (sym (getD-set-other ms d c u d₀ other)) (λ gx gy. old e ∙ p gx gy)
+
+module _ (sh : Shape) (wide : 2 ≤ sh .lags) (e : W.Run) (m : R.Run) (s : SameRun sh e m) (c : ℕ) (inside : c < sh .cells)
+    (fs : List (List ℕ)) (p : Framed sh c fs (R.unitAt sh c m)) where
+  there : c < length (m .units)
+  there = omega (arith, s .cells)
+
+  -- an accepted call
+  abbrev toldBy : Call → R.Step → List (List ℕ)
+  toldBy call r = frameTold (sh .lags) c (usual call) (record { answer = r .answer; out = r .out })
+
+  -- a dump or an integration
+  moved-framed : (d : ℕ) (cell : Cell Ticks) → Framed sh c fs (R.unitAt sh c (R.withCell sh d cell m))
+  unfolding R.withCell
+  moved-framed d cell =
+      set-at sh (m .units) c d _ (R.freshUnit sh) fs fs there
+      (λ same gx gy. subst (λ k. Framed sh c fs (R.unitAt sh k m)) (sym (eqb-true d c same)) p gx gy) (λ _. refl) p
+
+  -- an emission of a bin of cell d: the frame that it tells, and the unit that it leaves
+  module _ (d bank bin : ℕ) (out : List ℕ) (h : ltb d (sh .cells) ≡ true)
+      (room : leb (frameLength accumulated (sh .lags)) (length out) ≡ true) where
+    abbrev was : R.Unit
+    was = R.unitAt sh d m
+
+    abbrev sent : Emitted
+    sent = R.emitted sh d bank bin m
+
+    abbrev frame : List ℕ
+    frame = setFrame sh d (was .xs) (was .ys) sent
+
+    stands : take (frameLength accumulated (sh .lags)) (splice out 0 frame) ≡ frame
+    stands =
+        front out frame _ (frame-length sh d (was .xs) (was .ys) sent)
+        (leb-true (frameLength accumulated (sh .lags)) (length out) room)
+
+    later : (gx gy : List ℕ) → frame ≡ setFrame sh d (gx ++ was .xs) (gy ++ was .ys) sent
+    later gx gy =
+        sym (frame-same sh wide (m .t) (e .units) (m .units) (s .limit) (s .cells) (s .units) [] [] d bank bin h)
+        ∙ frame-same sh wide (m .t) (e .units) (m .units) (s .limit) (s .cells) (s .units) gx gy d bank bin h
+
+    abbrev left : R.Unit
+    left =
+        record {
+          cell = M.emptyBin (binIndex (sh .bins) bank bin) (was .cell);
+          frames = sent ∷ was .frames;
+          xs = was .xs;
+          ys = was .ys;
+        }
+
+    abbrev toldIf : Bool → List (List ℕ)
+    toldIf b = frameIf b (sh .lags) (number (frameLength accumulated (sh .lags))) (splice out 0 frame)
+
+    own : d ≡ c → Framed sh c (toldIf true ++ fs) left
+    own same gx gy =
+        ap₂ (λ x y. x ∷ y) (stands ∙ later gx gy ∙ ap (λ k. setFrame sh k (gx ++ was .xs) (gy ++ was .ys) sent) same)
+        (subst (λ k. Framed sh c fs (R.unitAt sh k m)) (sym same) p gx gy)
+
+    emitted-framed : Framed sh c (toldIf (eqb d c) ++ fs) (getD (set (m .units) d left) c (R.freshUnit sh))
+    emitted-framed = by-test (eqb d c) refl
+      where
+        by-test : (b : Bool) → eqb d c ≡ b
+            → Framed sh c (toldIf b ++ fs) (getD (set (m .units) d left) c (R.freshUnit sh))
+        by-test true q =
+            set-at sh (m .units) c d left (R.freshUnit sh) (toldIf true ++ fs) fs there (λ _. own (eqb-true d c q))
+            (λ r. let z : _≡_ {A = ℕ} 0 1 = cc in absurd (omega arith)) p
+        by-test false q =
+            set-at sh (m .units) c d left (R.freshUnit sh) fs fs there
+            (λ r. let z : _≡_ {A = ℕ} 0 1 = cc in absurd (omega arith)) (λ _. refl) p
+
+  -- every call
+  accepted-framed : (call : Call) → firstOf (R.callTests sh m call) ≡ Accepted
+      → Framed sh c (toldBy call (R.accepted sh call m) ++ fs) (R.unitAt sh c ((R.accepted sh call m) .run))
+  unfolding R.accepted R.withFrame
+  accepted-framed (tick samples) v = tick-at (m .t) samples (m .units) c (R.freshUnit sh) there sh fs p
+  accepted-framed (dump d command bank phase block) v = moved-framed d _
+  accepted-framed (integrate d) v = moved-framed d _
+  accepted-framed (emit d bank bin out) v =
+      let k = binIndex (sh .bins) bank bin in
+      let x = pass (ltb d (sh .cells)) _ _ v in
+      let y = pass (bankOk bank && ltb bin (sh .bins)) _ _ (x .1) in
+      let z = pass (eqb ((M.binAt k ((R.unitAt sh d m) .cell)) .state) ready) _ _ (y .1) in
+      let w = pass (leb (frameLength accumulated (sh .lags)) (length out)) _ _ (z .1) in
+      emitted-framed d bank bin out (x .0) (w .0)
+  accepted-framed (reading d lag loss) v = p
+
+  refused-told : (call : Call) (k : ℕ) → toldBy call (record { answer = refused k; out = lentTo call; run = m }) ≡ []
+  refused-told (tick samples) k = refl
+  refused-told (dump d command bank phase block) k = refl
+  refused-told (integrate d) k = refl
+  refused-told (emit d bank bin out) k = by-test (eqb d c)
+    where
+      by-test : (b : Bool) → frameIf b (sh .lags) (refused k) out ≡ []
+      by-test true = refl
+      by-test false = refl
+  refused-told (reading d lag loss) k = refl
+
+  usual-framed : (call : Call)
+      → Framed sh c (toldBy call (R.step sh (memoryWords sh) call m) ++ fs)
+      (R.unitAt sh c ((R.step sh (memoryWords sh) call m) .run))
+  unfolding R.step
+  usual-framed call = by-verdict (R.verdict sh m (memoryWords sh) call) refl
+    where
+      after : Verdict → R.Step
+      after v =
+          judged v (λ why. record { answer = refusal why; out = lentTo call; run = m }) (R.accepted sh call m)
+
+      by-verdict : (v : Verdict) → R.verdict sh m (memoryWords sh) call ≡ v
+          → Framed sh c (toldBy call (after v) ++ fs) (R.unitAt sh c ((after v) .run))
+      by-verdict Accepted v = accepted-framed call (accepts sh wide e m s call v)
+      by-verdict (Refused why) v = rw (refused-told call _) p
+
+-- a list of calls
+pub list-framed : (sh : Shape) → 2 ≤ sh .lags → (cs : List Listed) → AllStand cs → (e : W.Run) (m : R.Run) → SameRun sh e m
+    → (c : ℕ) → c < sh .cells → (fs : List (List ℕ)) → Framed sh c fs (R.unitAt sh c m)
+    → Framed sh c (framesTold (sh .lags) c cs (machineTells sh cs m) ++ fs) (R.unitAt sh c (machineRun sh cs m))
+unfolding machineTells machineRun
+list-framed sh w [] a e m s c h fs p = p
+list-framed sh w (usual call ∷ cs) a e m s c h fs p =
+    let x = usual-same sh w e m s call in
+    let r = R.step sh (memoryWords sh) call m in
+    let first = frameTold (sh .lags) c (usual call) (record { answer = r .answer; out = r .out }) in
+    let rest = framesTold (sh .lags) c cs (machineTells sh cs (r .run)) in
+    let q = list-framed sh w cs (a .1) (x .run) (r .run) (x .same) c h _ (usual-framed sh w e m s c h fs p call) in
+    λ gx gy. append-assoc rest first fs ∙ q gx gy
+list-framed sh w (odd shape call given ∷ cs) a e m s c h fs p =
+    let x = turned shape call given m (a .0) in
+    let told = framesTold (sh .lags) c cs in
+    subst (λ r. Framed sh c ((told (machineTells sh cs r) ++ []) ++ fs) (R.unitAt sh c (machineRun sh cs r)))
+    (sym (ap (λ z. z .run) (x .machine)))
+    (λ gx gy. append-assoc (told (machineTells sh cs m)) [] fs ∙ list-framed sh w cs (a .1) e m s c h fs p gx gy)

@@ -1,0 +1,210 @@
+-- The engine's cell and the machine's: what relates them, and that ticks, dumps, integrations and emissions keep it.
+use Prim.Native.Nat.{ℕ, zero, suc, _*_, _≤_, _<_}
+use mathlib.Core.Path.{_≡_, refl, sym, ap, ap₂, _∙_, subst, fun-ext}
+use mathlib.Core.Bool.{false}
+use mathlib.Core.List.{List, [], _∷_, _++_, map}
+use native.Mathlib.Nat.{mul-le-mul-right}
+use native.Mathlib.Omega.{arith}
+use lib.Dec.{eqb}
+use lib.ListN.{length}
+use lib.Seq.{append-snoc}
+use borrow.Author.Tests.{eqb-false}
+use Rattle.lta_spec.specs.Tick.{fromByte}
+use Rattle.lta_spec.specs.Place.{Label, Cell}
+use Rattle.lta_spec.specs.Call.{idle, discard, binIndex}
+use Rattle.lta_spec.specs.Row.{tickRow, fromWord}
+use Rattle.lta_spec.specs.Machine as M
+use Rattle.lta_spec.specs.Machine.{Ticks}
+use Rattle.lta_spec.specs.Numbers.{Emitted}
+use Rattle.lta_spec.specs.MachineRun as R
+use Rattle.lta_spec.specs.Engine as E
+use Rattle.lta_spec.specs.Engine.{Row}
+use Rattle.lta_spec.specs.Demand.{places, overAll, ticksBelow}
+use Rattle.lta_spec.proofs.RowLaws.{numbers-one, window, window-shift, ago-window, row-same}
+use Rattle.lta_spec.proofs.Carry.{row, mapCell, mapResult, tick-carry, dump-carry, integrate-carry, empty-carry}
+use Rattle.lta_spec.proofs.Conserve.{tally, tally-ones, overCell, over-places}
+use Rattle.lta_spec.proofs.Conserve.{tick-total, dump-total, integrate-total, empty-total}
+use Rattle.lta_spec.proofs.Sound.{Sound, LabelSound, tick-sound, dump-sound, integrate-sound, empty-sound}
+
+-- the machine's cell: as many bytes as ticks, sound, and each tick once in its places
+pub record Good (B t : ℕ) (m : R.Unit) : Type 0 where
+  pub heardX : length (m .xs) ≡ t
+  pub heardY : length (m .ys) ≡ t
+  pub sound : Sound B t (m .cell)
+  -- any quantity of the ticks: its sum over the places is its sum over the ticks taken
+  pub once : (f : ℕ → ℕ) → overAll (tally f) (places m) ≡ tally f (ticksBelow t)
+
+-- the engine's cell has, in each place, the row of the machine's set, whatever bytes come later
+pub record Same (n B t : ℕ) (e : E.Unit) (m : R.Unit) : Type 0 where
+  pub cell : (gx gy : List ℕ) → e .cell ≡ mapCell (row n (gx ++ m .xs) (gy ++ m .ys)) (m .cell)
+  pub xs : e .xs ≡ window n (m .xs)
+  pub ys : e .ys ≡ window n (m .ys)
+  pub good : Good B t m
+
+ones-below : (t : ℕ) → tally (λ i. 1) (ticksBelow t) ≡ t
+ones-below zero = refl
+ones-below (suc t) = omega (arith, ones-below t)
+
+-- the places of a cell have no more members than there were ticks
+pub few : (B t : ℕ) (m : R.Unit) → Good B t m → overCell length (m .cell) ≤ t
+few B t m g =
+    let f : tally (λ i. 1) ≡ length = fun-ext tally-ones in
+    let p : overCell (tally (λ i. 1)) (m .cell) ≤ t =
+    omega (arith, g .once (λ i. 1), over-places (tally (λ i. 1)) m, ones-below t) in
+    subst (λ q. overCell q (m .cell) ≤ t) f p
+
+tally-none : (f : ℕ → ℕ) (s : Ticks) → length s ≡ 0 → tally f s ≡ 0
+tally-none f [] e = refl
+tally-none f (x ∷ s) e = absurd (omega arith)
+
+-- an unoccupied Held is empty
+held-none : (B t : ℕ) (c : Cell Ticks) → Sound B t c → (f : ℕ → ℕ) → eqb (c .held .occupied) 1 ≡ false
+    → tally f (c .held .content .members) ≡ 0
+held-none B t c s f e =
+    let n : (c .held .occupied ≡ 1) → ⊥ = eqb-false (c .held .occupied) 1 e in
+    let g = s .flat in
+    tally-none f (c .held .content .members) (omega arith)
+
+pub index-below : (B bank bin : ℕ) → bank < 2 → bin < B → binIndex B bank bin < 2 * B
+index-below B bank bin p q =
+    let m : bank * B ≤ 1 * B = mul-le-mul-right B (omega arith) in omega arith
+
+-- a tick
+module _ (n B t : ℕ) (wide : 2 ≤ n) (x y : ℕ) (e : E.Unit) (m : R.Unit) (s : Same n B t e m) where
+  abbrev pub ticked : R.Unit
+  ticked = record { cell = M.tickCell t (m .cell); frames = m .frames; xs = x ∷ m .xs; ys = y ∷ m .ys }
+
+  new-xs : E.shifted n x (e .xs) ≡ window n (x ∷ m .xs)
+  new-xs = rw (s .xs) (window-shift n x (m .xs))
+
+  new-ys : E.shifted n y (e .ys) ≡ window n (y ∷ m .ys)
+  new-ys = rw (s .ys) (window-shift n y (m .ys))
+
+  new-row : tickRow n (map fromWord (E.shifted n x (e .xs))) (map fromWord (E.shifted n y (e .ys)))
+      ≡ tickRow n (map fromByte (x ∷ m .xs)) (map fromByte (y ∷ m .ys))
+  new-row =
+      rw (new-xs, new-ys)
+      (row-same n _ _ _ _ (λ d h. ago-window n (x ∷ m .xs) d h) (λ d h. ago-window n (y ∷ m .ys) d h) wide)
+
+  pub tick-same : Same n B (suc t) (E.tickUnit n x y e) ticked
+  unfolding E.tickUnit
+  tick-same =
+      record {
+        cell = λ gx gy.
+            let c : e .cell ≡ mapCell (row n (gx ++ x ∷ m .xs) (gy ++ y ∷ m .ys)) (m .cell) =
+            rw (append-snoc gx x (m .xs), append-snoc gy y (m .ys)) at (s .cell (gx ++ x ∷ []) (gy ++ y ∷ [])) in
+            let r = new-row ∙ sym (numbers-one n gx (m .xs) gy (m .ys) x y t (s .good .heardX) (s .good .heardY)) in
+            ap₂ (λ q z. E.tickBy n (E.hasRoom n q) z q) c r
+            ∙ sym (tick-carry n (gx ++ x ∷ m .xs) (gy ++ y ∷ m .ys) t (m .cell));
+        xs = new-xs;
+        ys = new-ys;
+        good =
+            record {
+              heardX = ap suc (s .good .heardX);
+              heardY = ap suc (s .good .heardY);
+              sound = tick-sound B t (m .cell) (s .good .sound);
+              once = λ f.
+                  omega (
+                    arith,
+                    over-places (tally f) ticked,
+                    over-places (tally f) m,
+                    tick-total f (m .cell) (s .good .sound .flat .losses) t,
+                    s .good .once f,
+                  );
+            };
+      }
+
+-- a call that changes places of a cell
+module _ (n B t : ℕ) (e : E.Unit) (m : R.Unit) (s : Same n B t e m) where
+  -- the units with other places
+  abbrev pub engineWith : Cell Row → E.Unit
+  engineWith c = record { cell = c; xs = e .xs; ys = e .ys }
+
+  abbrev pub machineWith : Cell Ticks → List Emitted → R.Unit
+  machineWith c fs = record { cell = c; frames = fs; xs = m .xs; ys = m .ys }
+
+  change : (ec : Cell Row) (mc : Cell Ticks) (fs : List Emitted)
+      → ((gx gy : List ℕ) → ec ≡ mapCell (row n (gx ++ m .xs) (gy ++ m .ys)) mc)
+      → Sound B t mc
+      → ((f : ℕ → ℕ) → overAll (tally f) (places (machineWith mc fs)) ≡ overAll (tally f) (places m))
+      → Same n B t (engineWith ec) (machineWith mc fs)
+  change ec mc fs carried sound kept =
+      record {
+        cell = carried;
+        xs = s .xs;
+        ys = s .ys;
+        good =
+            record {
+              heardX = s .good .heardX;
+              heardY = s .good .heardY;
+              sound = sound;
+              once = λ f. kept f ∙ s .good .once f;
+            };
+      }
+
+  pub dump-same : (l : Label)
+      → (eqb (l .command) idle ≡ false → eqb (l .command) discard ≡ false → LabelSound B l)
+      → Same n B t (engineWith ((E.dumpCell n l t (e .cell)) .cell)) (machineWith ((M.dumpCell l t (m .cell)) .cell) (m .frames))
+  unfolding mapResult
+  dump-same l h =
+      change _ _ (m .frames)
+      (λ gx gy.
+      ap (λ c. (E.dumpCell n l t c) .cell) (s .cell gx gy)
+      ∙ sym (ap (λ r. r .cell) (dump-carry n (gx ++ m .xs) (gy ++ m .ys) l t (m .cell))))
+      (dump-sound B t (m .cell) (s .good .sound) l h)
+      (λ f.
+      omega (
+        arith,
+        over-places (tally f) (machineWith ((M.dumpCell l t (m .cell)) .cell) (m .frames)),
+        over-places (tally f) m,
+        dump-total f (m .cell) (s .good .sound .flat .losses) l t (held-none B t (m .cell) (s .good .sound) f),
+      ))
+
+  pub dump-answer : (l : Label) → (E.dumpCell n l t (e .cell)) .answer ≡ (M.dumpCell l t (m .cell)) .answer
+  unfolding mapResult
+  dump-answer l =
+      ap (λ c. (E.dumpCell n l t c) .answer) (s .cell [] [])
+      ∙ sym (ap (λ r. r .answer) (dump-carry n (m .xs) (m .ys) l t (m .cell)))
+
+  pub integrate-same :
+      Same n B t (engineWith ((E.integrateCell n B (e .cell)) .cell))
+      (machineWith ((M.integrateCell B (m .cell)) .cell) (m .frames))
+  unfolding mapResult
+  integrate-same =
+      let l = s .good .sound .flat .label in
+      change _ _ (m .frames)
+      (λ gx gy.
+      ap (λ c. (E.integrateCell n B c) .cell) (s .cell gx gy)
+      ∙ sym (ap (λ r. r .cell) (integrate-carry n (gx ++ m .xs) (gy ++ m .ys) B (m .cell))))
+      (integrate-sound B t (m .cell) (s .good .sound))
+      (λ f.
+      omega (
+        arith,
+        over-places (tally f) (machineWith ((M.integrateCell B (m .cell)) .cell) (m .frames)),
+        over-places (tally f) m,
+        integrate-total f (m .cell) (s .good .sound .flat .losses) B
+            (omega (arith, index-below B _ _ (l .bank) (l .bin), s .good .sound .flat .bins)),
+      ))
+
+  pub integrate-answer : (E.integrateCell n B (e .cell)) .answer ≡ (M.integrateCell B (m .cell)) .answer
+  unfolding mapResult
+  integrate-answer =
+      ap (λ c. (E.integrateCell n B c) .answer) (s .cell [] [])
+      ∙ sym (ap (λ r. r .answer) (integrate-carry n (m .xs) (m .ys) B (m .cell)))
+
+  pub empty-same : (k bank bin : ℕ) → k < 2 * B
+      → Same n B t (engineWith (E.emptyBin n k (e .cell)))
+      (machineWith (M.emptyBin k (m .cell))
+      (record { bank = bank; bin = bin; content = (M.binAt k (m .cell)) .content } ∷ m .frames))
+  empty-same k bank bin h =
+      let fs : List Emitted = record { bank = bank; bin = bin; content = (M.binAt k (m .cell)) .content } ∷ m .frames in
+      change _ _ fs
+      (λ gx gy. ap (E.emptyBin n k) (s .cell gx gy) ∙ sym (empty-carry n (gx ++ m .xs) (gy ++ m .ys) k (m .cell)))
+      (empty-sound B t (m .cell) (s .good .sound) k)
+      (λ f.
+      omega (
+        arith,
+        over-places (tally f) (machineWith (M.emptyBin k (m .cell)) fs),
+        over-places (tally f) m,
+        empty-total f (m .cell) (s .good .sound .flat .losses) k (omega (arith, s .good .sound .flat .bins)),
+      ))

@@ -1,0 +1,375 @@
+-- The engine's run and the machine's, call by call: the same verdict, the same answer, and the relation kept.
+use Prim.Native.Nat.{ℕ, zero, suc, _+_, _*_, _-_, _≤_, _<_}
+use mathlib.Core.Path.{_≡_, refl, ap, ap₂, _∙_}
+use mathlib.Core.Bool.{Bool, true, false, cond, not, _&&_, _||_}
+use mathlib.Core.List.{List, [], _∷_, _++_}
+use native.Mathlib.Nat.{not-suc-le-zero, le-of-suc-le-suc, suc-mul}
+use native.Mathlib.Omega.{arith}
+use lib.Dec.{ltb, leb, eqb}
+use lib.ListN.{length, getD, set, drop, length-set}
+use borrow.Author.Tests.{ltb-true, leb-true, eqb-false, le-leb, not-true}
+use Rattle.lta_spec.specs.Words.{splice}
+use Rattle.lta_spec.specs.Refusals.{firstOf}
+use Rattle.lta_spec.specs.Shape.{runLimit}
+use Rattle.lta_spec.specs.Place.{lossCount}
+use Rattle.lta_spec.specs.Call.{Call, last, idle, discard, commandOk, dumpLabel, dataBinOk, bankOk, binIndex}
+use Rattle.lta_spec.specs.Call.Call.{tick, dump, integrate, emit, reading}
+use Rattle.lta_spec.specs.Answer.Answer.{number, entry}
+use Rattle.lta_spec.specs.Row.{rowSums}
+use Rattle.lta_spec.specs.Machine as M
+use Rattle.lta_spec.specs.Numbers.{setFrame}
+use Rattle.lta_spec.specs.MachineRun as R
+use Rattle.lta_spec.specs.Engine as E
+use Rattle.lta_spec.specs.Damage as D
+use Rattle.lta_spec.specs.Memory as W
+use Rattle.lta_spec.specs.Step as S
+use Rattle.lta_spec.specs.declared.Shape.{Shape}
+use Rattle.lta_spec.specs.declared.Refusal.{Refusal}
+use Rattle.lta_spec.specs.declared.Verdict.{Verdict}
+use Rattle.lta_spec.specs.declared.Verdict.the-variants.{Accepted, Refused}
+use Rattle.lta_spec.proofs.TestLaws.{and-both, pass}
+use Rattle.lta_spec.proofs.RowLaws.{numbers, numbers-size, window}
+use Rattle.lta_spec.proofs.SetLaws.{stored-edge, stored-centre, sums-told, lags-told}
+use Rattle.lta_spec.proofs.Carry.{row, mapStamped, mapBin, mapCell, room-carry, bin-carry, loss-carry}
+use Rattle.lta_spec.proofs.Sound.{LabelSound}
+use Rattle.lta_spec.proofs.Intact.{tick-intact, dump-intact, integrate-intact, emit-intact, read-intact}
+use Rattle.lta_spec.proofs.SameCell.{Same, few, index-below, tick-same}
+use Rattle.lta_spec.proofs.SameCell.{dump-same, dump-answer, integrate-same, integrate-answer, empty-same}
+
+-- all cells
+abbrev pub AllSame : (n B t : ℕ) → List E.Unit → List R.Unit → Type 0
+AllSame n B t [] [] = Prim.Unit {0}
+AllSame n B t [] (m ∷ ms) = ⊥
+AllSame n B t (e ∷ es) [] = ⊥
+AllSame n B t (e ∷ es) (m ∷ ms) = Same n B t e m × AllSame n B t es ms
+
+pub same-length : (n B t : ℕ) (es : List E.Unit) (ms : List R.Unit) → AllSame n B t es ms → length es ≡ length ms
+same-length n B t [] [] a = refl
+same-length n B t [] (m ∷ ms) a = absurd a
+same-length n B t (e ∷ es) [] a = absurd a
+same-length n B t (e ∷ es) (m ∷ ms) a = ap suc (same-length n B t es ms (a .1))
+
+pub same-at : (n B t : ℕ) (es : List E.Unit) (ms : List R.Unit) (d : E.Unit) (d′ : R.Unit) → AllSame n B t es ms
+    → (c : ℕ) → c < length ms → Same n B t (getD es c d) (getD ms c d′)
+same-at n B t [] [] d d′ a c h = absurd (not-suc-le-zero h)
+same-at n B t [] (m ∷ ms) d d′ a c h = absurd a
+same-at n B t (e ∷ es) [] d d′ a c h = absurd a
+same-at n B t (e ∷ es) (m ∷ ms) d d′ a zero h = a .0
+same-at n B t (e ∷ es) (m ∷ ms) d d′ a (suc c) h = same-at n B t es ms d d′ (a .1) c (le-of-suc-le-suc h)
+
+same-set : (n B t : ℕ) (es : List E.Unit) (ms : List R.Unit) (c : ℕ) (e′ : E.Unit) (m′ : R.Unit) → AllSame n B t es ms
+    → Same n B t e′ m′ → AllSame n B t (set es c e′) (set ms c m′)
+same-set n B t [] [] c e′ m′ a s = a
+same-set n B t [] (m ∷ ms) c e′ m′ a s = absurd a
+same-set n B t (e ∷ es) [] c e′ m′ a s = absurd a
+same-set n B t (e ∷ es) (m ∷ ms) zero e′ m′ a s = (s, a .1)
+same-set n B t (e ∷ es) (m ∷ ms) (suc c) e′ m′ a s = (a .0, same-set n B t es ms c e′ m′ (a .1) s)
+
+-- the runs
+pub record SameRun (sh : Shape) (e : W.Run) (m : R.Run) : Type 0 where
+  pub t : e .t ≡ m .t
+  pub limit : m .t ≤ runLimit
+  pub cells : length (m .units) ≡ sh .cells
+  pub units : AllSame (sh .lags) (sh .bins) (m .t) (e .units) (m .units)
+
+-- what an accepted call leaves
+pub record SameDone (sh : Shape) (e : S.Done) (m : R.Step) : Type 0 where
+  pub answer : e .answer ≡ m .answer
+  pub out : e .out ≡ m .out
+  pub run : SameRun sh (e .run) (m .run)
+
+-- one more test that passes, and tests that are the same, make no difference
+passing : (b : Bool) (r : Refusal) (v : Verdict) → b ≡ true → cond b v (Refused r) ≡ v
+passing b r v h = rw h
+
+same-test : (b : Bool) (r : Refusal) (v w : Verdict) → (b ≡ true → v ≡ w) → cond b v (Refused r) ≡ cond b w (Refused r)
+same-test true r v w h = h refl
+same-test false r v w h = refl
+
+tick-verdict : (sh : Shape) (t : ℕ) → t ≤ runLimit → not (eqb t runLimit) ≡ true → t < runLimit
+tick-verdict sh t l h = let n : (t ≡ runLimit) → ⊥ = eqb-false t runLimit (not-true _ h) in omega arith
+
+both : {a b : Bool} → a ≡ true → b ≡ true → a && b ≡ true
+both p q = rw (p, q)
+
+module _ (sh : Shape) (wide : 2 ≤ sh .lags) (t : ℕ) (es : List E.Unit) (ms : List R.Unit) (limit : t ≤ runLimit)
+    (cells : length ms ≡ sh .cells) (units : AllSame (sh .lags) (sh .bins) t es ms) where
+  abbrev e : W.Run
+  e = record { t = t; units = es }
+
+  abbrev m : R.Run
+  m = record { t = t; units = ms }
+
+  -- a cell that there is
+  at : (c : ℕ) → ltb c (sh .cells) ≡ true → Same (sh .lags) (sh .bins) t (S.unitAt sh c e) (R.unitAt sh c m)
+  at c h = same-at _ _ t es ms _ _ units c (omega (arith, ltb-true c (sh .cells) h))
+
+  -- what the engine's tests of 11 say of a related cell
+  module _ (c : ℕ) (h : ltb c (sh .cells) ≡ true) where
+    abbrev u : R.Unit
+    u = R.unitAt sh c m
+
+    same : Same (sh .lags) (sh .bins) t (S.unitAt sh c e) u
+    same = at c h
+
+    cell-is : S.cellAt sh c e ≡ mapCell (row (sh .lags) (u .xs) (u .ys)) (u .cell)
+    cell-is = same .cell [] []
+
+    t-ok : leb t runLimit ≡ true
+    t-ok = le-leb t runLimit limit
+
+    dump-passes : (command : ℕ)
+        → leb t runLimit && D.dumpSound (sh .lags) (sh .bins) t command (S.cellAt sh c e) ≡ true
+    dump-passes command =
+        both t-ok
+        (rw cell-is
+        (dump-intact _ _ t (u .xs) (u .ys) (u .cell) (same .good .sound) (few _ t u (same .good)) limit command))
+
+    integrate-passes : leb t runLimit && D.integrateSound (sh .lags) (sh .bins) t (S.cellAt sh c e) ≡ true
+    integrate-passes =
+        both t-ok
+        (rw cell-is
+        (integrate-intact _ _ t (u .xs) (u .ys) (u .cell) (same .good .sound) (few _ t u (same .good)) limit))
+
+    emit-passes : (k : ℕ) → leb t runLimit && D.emitSound (sh .lags) t k (S.cellAt sh c e) ≡ true
+    emit-passes k =
+        both t-ok
+        (rw cell-is
+        (emit-intact _ _ t (u .xs) (u .ys) (u .cell) (same .good .sound) (few _ t u (same .good)) limit k))
+
+    read-passes : leb t runLimit && D.readSound (S.cellAt sh c e) ≡ true
+    read-passes =
+        both t-ok
+        (rw cell-is (read-intact _ _ t (u .xs) (u .ys) (u .cell) (same .good .sound) (few _ t u (same .good)) limit))
+
+    -- flags and states
+    occupied-same : (S.cellAt sh c e) .held .occupied ≡ u .cell .held .occupied
+    unfolding mapCell
+    occupied-same = ap (λ z. z .held .occupied) cell-is
+
+    bin-is : (gx gy : List ℕ) (k : ℕ)
+        → E.binAt (sh .lags) k (S.cellAt sh c e)
+        ≡ mapBin (row (sh .lags) (gx ++ u .xs) (gy ++ u .ys)) (M.binAt k (u .cell))
+    bin-is gx gy k =
+        ap (E.binAt (sh .lags) k) (same .cell gx gy)
+        ∙ bin-carry (sh .lags) (gx ++ u .xs) (gy ++ u .ys) k (u .cell)
+
+    state-same : (k : ℕ) → (E.binAt (sh .lags) k (S.cellAt sh c e)) .state ≡ (M.binAt k (u .cell)) .state
+    unfolding mapBin
+    state-same k = ap (λ b. b .state) (bin-is [] [] k)
+
+    loss-is : (i : ℕ)
+        → E.lossAt (sh .lags) i ((S.cellAt sh c e) .losses)
+        ≡ numbers (sh .lags) (u .xs) (u .ys) (getD (u .cell .losses) i [])
+    loss-is i =
+        ap (λ z. E.lossAt (sh .lags) i (z .losses)) cell-is ∙ loss-carry (sh .lags) (u .xs) (u .ys) i (u .cell)
+
+units-sound : (sh : Shape) (t : ℕ) → t < runLimit → (es : List E.Unit) (ms : List R.Unit)
+    → AllSame (sh .lags) (sh .bins) t es ms → S.unitsSound sh t es ≡ true
+unfolding S.unitsSound
+units-sound sh t l [] [] a = refl
+units-sound sh t l [] (m ∷ ms) a = absurd a
+units-sound sh t l (e ∷ es) [] a = absurd a
+units-sound sh t l (e ∷ es) (m ∷ ms) a =
+    let s = a .0 in
+    let n = sh .lags in
+    let c = mapCell (row n (m .xs) (m .ys)) (m .cell) in
+    let q : e ≡ record { cell = c; xs = window n (m .xs); ys = window n (m .ys) } =
+    λ i. record { cell = s .cell [] [] i; xs = s .xs i; ys = s .ys i } in
+    both
+    (ap (D.tickSound (sh .lags) t) q
+    ∙ tick-intact (sh .lags) (sh .bins) t (m .xs) (m .ys) (m .cell) (s .good .sound) (few _ t m (s .good)) (omega arith)
+    (m .xs) (m .ys) l)
+    (units-sound sh t l es ms (a .1))
+
+module _ (sh : Shape) (wide : 2 ≤ sh .lags) (t : ℕ) (es : List E.Unit) (ms : List R.Unit) (limit : t ≤ runLimit)
+    (cells : length ms ≡ sh .cells) (units : AllSame (sh .lags) (sh .bins) t es ms) where
+  -- the engine's verdict is the machine's
+  pub verdict-same : (call : Call)
+      → firstOf (S.callTests sh call (record { t = t; units = es })) ≡ firstOf (R.callTests sh (record { t = t; units = ms }) call)
+  verdict-same (tick samples) =
+      same-test (eqb (length samples) (2 * sh .cells)) _ _ _
+      (λ _.
+      same-test (not (eqb t runLimit)) _ _ _
+      (λ h.
+      passing _ _ _
+      (both (le-leb t runLimit limit) (units-sound sh t (tick-verdict sh t limit h) es ms units))))
+  verdict-same (dump c command bank phase block) =
+      same-test (ltb c (sh .cells)) _ _ _
+      (λ h.
+      same-test (commandOk command) _ _ _
+      (λ _.
+      same-test (bankOk bank && dataBinOk sh phase block) _ _ _
+      (λ _. passing _ _ _ (dump-passes sh wide t es ms limit cells units c h command))))
+  verdict-same (integrate c) =
+      same-test (ltb c (sh .cells)) _ _ _
+      (λ h.
+      rw (
+        integrate-passes sh wide t es ms limit cells units c h,
+        occupied-same sh wide t es ms limit cells units c h,
+      ))
+  verdict-same (emit c bank bin out) =
+      let k = binIndex (sh .bins) bank bin in
+      same-test (ltb c (sh .cells)) _ _ _
+      (λ h.
+      same-test (bankOk bank && ltb bin (sh .bins)) _ _ _
+      (λ _.
+      rw (
+        emit-passes sh wide t es ms limit cells units c h k,
+        state-same sh wide t es ms limit cells units c h k,
+      )))
+  verdict-same (reading c lag loss) =
+      same-test (ltb c (sh .cells)) _ _ _
+      (λ h.
+      same-test (ltb lag (sh .lags) && (leb 1 loss && leb loss lossCount)) _ _ _
+      (λ _. passing _ _ _ (read-passes sh wide t es ms limit cells units c h)))
+
+-- a label that a dump gives to Held
+command-kept : (c : ℕ) → commandOk c ≡ true → eqb c idle ≡ false → eqb c discard ≡ false → c ≤ last
+unfolding commandOk
+command-kept c ok p q = by-test (leb c last) refl (rw (p, q) at ok)
+  where
+    by-test : (b : Bool) → leb c last ≡ b → b || (false || false) ≡ true → c ≤ last
+    by-test true e h = leb-true c last e
+    by-test false e h = let z : _≡_ {A = ℕ} 0 1 = cc in absurd (omega arith)
+
+label-kept : (sh : Shape) (command bank phase block : ℕ) → commandOk command ≡ true
+    → bankOk bank && dataBinOk sh phase block ≡ true → eqb command idle ≡ false → eqb command discard ≡ false
+    → LabelSound (sh .bins) (dumpLabel sh command bank phase block)
+unfolding dataBinOk
+label-kept sh command bank phase block ok rule p q =
+    let a = and-both (bankOk bank) _ rule in
+    let b = and-both (leb (sh .start) block) _ (a .1) in
+    let c = and-both (ltb block (sh .start + sh .blocks)) _ (b .1) in
+    let d = and-both (leb (suc phase * sh .blocks) (sh .bins)) true (c .1) in
+    let whole : phase * sh .blocks + sh .blocks ≤ sh .bins =
+    omega (arith, suc-mul phase (sh .blocks), leb-true (suc phase * sh .blocks) (sh .bins) (d .0)) in
+    record {
+      command = command-kept command ok p q;
+      bank = ltb-true bank 2 (a .0);
+      bin = omega (arith, leb-true (sh .start) block (b .0), ltb-true block (sh .start + sh .blocks) (c .0));
+    }
+
+-- a tick, all cells
+tick-units : (sh : Shape) → 2 ≤ sh .lags → (t : ℕ) (samples : List ℕ) (es : List E.Unit) (ms : List R.Unit)
+    → AllSame (sh .lags) (sh .bins) t es ms
+    → AllSame (sh .lags) (sh .bins) (suc t) (S.tickUnits sh samples es) (R.tickUnits t samples ms)
+unfolding S.tickUnits R.tickUnits
+tick-units sh w t samples [] [] a = a
+tick-units sh w t samples [] (m ∷ ms) a = absurd a
+tick-units sh w t samples (e ∷ es) [] a = absurd a
+tick-units sh w t samples (e ∷ es) (m ∷ ms) a =
+    (tick-same _ _ t w (getD samples 0 0) (getD samples 1 0) e m (a .0), tick-units sh w t (drop 2 samples) es ms (a .1))
+
+tick-length : (t : ℕ) (samples : List ℕ) (ms : List R.Unit) → length (R.tickUnits t samples ms) ≡ length ms
+unfolding R.tickUnits
+tick-length t samples [] = refl
+tick-length t samples (m ∷ ms) = ap suc (tick-length t (drop 2 samples) ms)
+
+held-off : (sh : Shape) (t : ℕ) (es : List E.Unit) (ms : List R.Unit) → AllSame (sh .lags) (sh .bins) t es ms
+    → S.heldOff sh es ≡ R.heldOff ms
+unfolding S.heldOff R.heldOff
+held-off sh t [] [] a = refl
+held-off sh t [] (m ∷ ms) a = absurd a
+held-off sh t (e ∷ es) [] a = absurd a
+held-off sh t (e ∷ es) (m ∷ ms) a =
+    let room = ap (E.hasRoom (sh .lags)) (a .0 .cell [] []) ∙ room-carry (sh .lags) (m .xs) (m .ys) (m .cell) in
+    ap₂ (λ b k. cond b 0 1 + k) room (held-off sh t es ms (a .1))
+
+-- an accepted call
+module _ (sh : Shape) (wide : 2 ≤ sh .lags) (t : ℕ) (es : List E.Unit) (ms : List R.Unit) (limit : t ≤ runLimit)
+    (cells : length ms ≡ sh .cells) (units : AllSame (sh .lags) (sh .bins) t es ms) where
+  -- cell c becomes e′ and m′
+  put-same : (c : ℕ) (e′ : E.Unit) (m′ : R.Unit) → Same (sh .lags) (sh .bins) t e′ m′
+      → SameRun sh (record { t = t; units = set es c e′ }) (record { t = t; units = set ms c m′ })
+  put-same c e′ m′ s =
+      record {
+        t = refl;
+        limit = limit;
+        cells = length-set ms c m′ ∙ cells;
+        units = same-set _ _ t es ms c e′ m′ units s;
+      }
+
+  -- the frame of a bin: its row's bytes are its set's, whatever bytes come later
+  pub frame-same : (gx gy : List ℕ) (c bank bin : ℕ) → ltb c (sh .cells) ≡ true
+      → let u = R.unitAt sh c (record { t = t; units = ms }) in
+      S.rowFrame sh c bank bin
+      ((E.binAt (sh .lags) (binIndex (sh .bins) bank bin) (S.cellAt sh c (record { t = t; units = es }))) .content)
+      ≡ setFrame sh c (gx ++ u .xs) (gy ++ u .ys) (R.emitted sh c bank bin (record { t = t; units = ms }))
+  unfolding S.rowFrame setFrame R.emitted mapBin mapStamped
+  frame-same gx gy c bank bin h =
+      let k = binIndex (sh .bins) bank bin in
+      let u = R.unitAt sh c (record { t = t; units = ms }) in
+      let xs = gx ++ u .xs in
+      let ys = gy ++ u .ys in
+      let s = (M.binAt k (u .cell)) .content .members in
+      let n = sh .lags in
+      rw (
+        bin-is sh wide t es ms limit cells units c h gx gy k,
+        lags-told n xs ys s,
+        numbers-size n xs ys s,
+        stored-edge n xs ys s,
+        stored-centre n xs ys s,
+      )
+
+  pub accepted-same : (call : Call) → firstOf (R.callTests sh (record { t = t; units = ms }) call) ≡ Accepted
+      → SameDone sh (S.accepted sh call (record { t = t; units = es })) (R.accepted sh call (record { t = t; units = ms }))
+  unfolding S.accepted R.accepted S.withCell R.withCell R.withFrame R.emitted
+  accepted-same (tick samples) v =
+      let a = pass (eqb (length samples) (2 * sh .cells)) _ _ v in
+      let b = pass (not (eqb t runLimit)) _ _ (a .1) in
+      record {
+        answer = ap number (held-off sh t es ms units);
+        out = refl;
+        run =
+            record {
+              t = refl;
+              limit = tick-verdict sh t limit (b .0);
+              cells = tick-length t samples ms ∙ cells;
+              units = tick-units sh wide t samples es ms units;
+            };
+      }
+  accepted-same (dump c command bank phase block) v =
+      let a = pass (ltb c (sh .cells)) _ _ v in
+      let b = pass (commandOk command) _ _ (a .1) in
+      let d = pass (bankOk bank && dataBinOk sh phase block) _ _ (b .1) in
+      let s = at sh wide t es ms limit cells units c (a .0) in
+      let l = dumpLabel sh command bank phase block in
+      record {
+        answer = ap number (dump-answer _ _ t _ _ s l);
+        out = refl;
+        run = put-same c _ _ (dump-same _ _ t _ _ s l (label-kept sh command bank phase block (b .0) (d .0)));
+      }
+  accepted-same (integrate c) v =
+      let a = pass (ltb c (sh .cells)) _ _ v in
+      let s = at sh wide t es ms limit cells units c (a .0) in
+      record {
+        answer = ap number (integrate-answer _ _ t _ _ s);
+        out = refl;
+        run = put-same c _ _ (integrate-same _ _ t _ _ s);
+      }
+  accepted-same (emit c bank bin out) v =
+      let a = pass (ltb c (sh .cells)) _ _ v in
+      let b = pass (bankOk bank && ltb bin (sh .bins)) _ _ (a .1) in
+      let d = and-both (bankOk bank) (ltb bin (sh .bins)) (b .0) in
+      let s = at sh wide t es ms limit cells units c (a .0) in
+      let k = binIndex (sh .bins) bank bin in
+      let inside = index-below (sh .bins) bank bin (ltb-true bank 2 (d .0)) (ltb-true bin (sh .bins) (d .1)) in
+      record {
+        answer = refl;
+        out = ap (splice out 0) (frame-same [] [] c bank bin (a .0));
+        run = put-same c _ _ (empty-same _ _ t _ _ s k bank bin inside);
+      }
+  accepted-same (reading c lag loss) v =
+      let a = pass (ltb c (sh .cells)) _ _ v in
+      let b = pass (ltb lag (sh .lags) && (leb 1 loss && leb loss lossCount)) _ _ (a .1) in
+      let d = and-both (ltb lag (sh .lags)) _ (b .0) in
+      let u = R.unitAt sh c (record { t = t; units = ms }) in
+      record {
+        answer =
+            ap (λ z. entry (rowSums lag z)) (loss-is sh wide t es ms limit cells units c (a .0) (loss - 1))
+            ∙ ap entry
+            (sums-told (sh .lags) (u .xs) (u .ys) (getD (u .cell .losses) (loss - 1) []) lag (ltb-true lag (sh .lags) (d .0)));
+        out = refl;
+        run = record { t = refl; limit = limit; cells = cells; units = units };
+      }

@@ -1,0 +1,205 @@
+-- Document 01, demand 3, as one statement: "every valid sample is in a frame, still in the machine, or in the ledger
+-- under its proper cause", for every list of calls after one setup. proofs/Demand.antt proves it.
+use Prim.Native.Nat.{ℕ, zero, suc, _+_, _*_, _≤_, _<_}
+use mathlib.Core.Path.{_≡_}
+use mathlib.Core.Bool.{Bool, true, false, cond}
+use mathlib.Core.List.{List, [], _∷_, _++_, map, List·Memᴰ}
+use lib.Dec.{eqb}
+use lib.IntN.{ℤ, pos, _+ℤ_}
+use lib.ListN.{length, getD, take}
+use Rattle.lta_spec.specs.Refusals.{firstOf}
+use Rattle.lta_spec.specs.Size.{memoryWords, hostTests}
+use Rattle.lta_spec.specs.Tick.{edgeLag, centreLag}
+use Rattle.lta_spec.specs.Place.{Stamped}
+use Rattle.lta_spec.specs.Frame.{accumulated, frameLength}
+use Rattle.lta_spec.specs.Call.{Call}
+use Rattle.lta_spec.specs.Answer.{Answer}
+use Rattle.lta_spec.specs.Call.Call.{tick, dump, integrate, emit, reading}
+use Rattle.lta_spec.specs.Answer.Answer.{refused, number, entry, fields, normal, noData}
+use Rattle.lta_spec.specs.Machine.{Ticks, binAt}
+use Rattle.lta_spec.specs.Numbers.{sumOver, inPhaseSum, quadratureSum, validCount, setFrame}
+use Rattle.lta_spec.specs.MachineRun as M
+use Rattle.lta_spec.specs.Row.{ticksOf, edgeOf, centreOf, unbiased}
+use Rattle.lta_spec.specs.Engine as E
+use Rattle.lta_spec.specs.Engine.{Row}
+use Rattle.lta_spec.specs.Memory.{runL, start}
+use Rattle.lta_spec.specs.Step as S
+use Rattle.lta_spec.specs.declared.Shape.{Shape}
+use Rattle.lta_spec.specs.declared.Verdict.{Verdict}
+use Rattle.lta_spec.specs.declared.Verdict.the-variants.{Accepted, Refused}
+
+-- A call as it stands in a list: on the run's own work memory with the setup's shape, or with another shape or other
+-- work memory, whose words are `given`.
+pub data Listed : Type 0 where
+  usual : Call → Listed
+  odd : Shape → Call → (given : List ℕ) → Listed
+
+abbrev pub Refuses : Verdict → Type 0
+Refuses Accepted = ⊥
+Refuses (Refused r) = Prim.Unit {0}
+
+-- "A call with another shape or length of work memory stands there only if 1 or 2 refuses it."
+abbrev pub Stands : Listed → Type 0
+Stands (usual call) = Prim.Unit {0}
+Stands (odd shape call given) = Refuses (firstOf (hostTests shape (length given)))
+
+abbrev pub AllStand : List Listed → Type 0
+AllStand [] = Prim.Unit {0}
+AllStand (c ∷ cs) = Stands c × AllStand cs
+
+-- what a call tells: its answer, and the frame buffer as it left it
+pub record Told : Type 0 where
+  pub answer : Answer
+  pub out : List ℕ
+
+-- The plain machine: "fed the arguments of setup and of each call, of work memory the length alone".
+abbrev pub machineStep : Shape → Listed → M.Run → M.Step
+machineStep sh (usual call) r = M.step sh (memoryWords sh) call r
+machineStep sh (odd shape call given) r = M.step shape (length given) call r
+
+unfoldable pub machineTells : Shape → List Listed → M.Run → List Told
+machineTells sh [] r = []
+machineTells sh (c ∷ cs) r =
+    let s = machineStep sh c r in record { answer = s .answer; out = s .out } ∷ machineTells sh cs (s .run)
+
+unfoldable pub machineRun : Shape → List Listed → M.Run → M.Run
+machineRun sh [] r = r
+machineRun sh (c ∷ cs) r = machineRun sh cs ((machineStep sh c r) .run)
+
+abbrev pub machineAfter : Shape → List Listed → M.Run
+machineAfter sh cs = machineRun sh cs (M.start sh)
+
+-- The engine: "Each call gets work memory as the call before left it, and nothing else writes it meanwhile."
+abbrev pub engineStep : Shape → Listed → (mem : List ℕ) → S.Step
+engineStep sh (usual call) mem = S.step sh call mem
+engineStep sh (odd shape call given) mem =
+    let s = S.step shape call given in record { answer = s .answer; out = s .out; mem = mem }
+
+unfoldable pub engineTells : Shape → List Listed → (mem : List ℕ) → List Told
+engineTells sh [] mem = []
+engineTells sh (c ∷ cs) mem =
+    let s = engineStep sh c mem in record { answer = s .answer; out = s .out } ∷ engineTells sh cs (s .mem)
+
+unfoldable pub engineMem : Shape → List Listed → (mem : List ℕ) → List ℕ
+engineMem sh [] mem = mem
+engineMem sh (c ∷ cs) mem = engineMem sh cs ((engineStep sh c mem) .mem)
+
+-- work memory as setup leaves it, and after a list
+abbrev pub freshMem : Shape → List ℕ
+freshMem sh = (runL sh) .put (start sh)
+
+abbrev pub memAfter : Shape → List Listed → List ℕ
+memAfter sh cs = engineMem sh cs (freshMem sh)
+
+-- a call with other work memory leaves that as it was
+abbrev pub Keeps : Listed → Type 0
+Keeps (usual call) = Prim.Unit {0}
+Keeps (odd shape call given) = (S.step shape call given) .mem ≡ given
+
+abbrev pub AllKeep : List Listed → Type 0
+AllKeep [] = Prim.Unit {0}
+AllKeep (c ∷ cs) = Keeps c × AllKeep cs
+
+-- "Demand 3 equates each place's numbers, in work memory by the builder's layout .., with its set's."
+pub record Equal (n : ℕ) (xs ys : List ℕ) (row : Row) (s : Ticks) : Type 0 where
+  pub ticks : ticksOf row ≡ length s
+  pub edge : edgeOf row ≡ validCount n xs ys s edgeLag
+  pub centre : centreOf row ≡ validCount n xs ys s (centreLag n)
+  pub inPhase : (k : ℕ) → k < n → unbiased (ticksOf row) (getD row (3 + 2 * k) 0) ≡ inPhaseSum n xs ys s k
+  pub quadrature : (k : ℕ) → k < n → unbiased (ticksOf row) (getD row (4 + 2 * k) 0) ≡ quadratureSum n xs ys s k
+
+-- a place with its stamp
+pub record EqualStamped (n : ℕ) (xs ys : List ℕ) (e : Stamped Row) (m : Stamped Ticks) : Type 0 where
+  pub numbers : Equal n xs ys (e .members) (m .members)
+  pub stamp : e .stamp ≡ m .stamp
+
+-- all places of one cell, with Held's flag and label and the bins' states
+pub record EqualCell (n : ℕ) (e : E.Unit) (m : M.Unit) : Type 0 where
+  pub opened : EqualStamped n (m .xs) (m .ys) (e .cell .opened) (m .cell .opened)
+  pub held : EqualStamped n (m .xs) (m .ys) (e .cell .held .content) (m .cell .held .content)
+  pub occupied : e .cell .held .occupied ≡ m .cell .held .occupied
+  pub label : e .cell .held .label ≡ m .cell .held .label
+  pub bins : (k : ℕ) → EqualStamped n (m .xs) (m .ys) ((E.binAt n k (e .cell)) .content) ((binAt k (m .cell)) .content)
+  pub states : (k : ℕ) → (E.binAt n k (e .cell)) .state ≡ (binAt k (m .cell)) .state
+  pub losses : (i : ℕ) → Equal n (m .xs) (m .ys) (E.lossAt n i (e .cell .losses)) (getD (m .cell .losses) i [])
+
+-- "a place is a cell's Open, Held, one bin, one loss or one emitted frame": the sets of all places of a cell
+abbrev pub places : M.Unit → List Ticks
+places u =
+    let c = u .cell in
+    c .opened .members
+    ∷ c .held .content .members
+    ∷ map (λ b. b .content .members) (c .bins) ++ (c .losses ++ map (λ e. e .content .members) (u .frames))
+
+-- a sum over a list
+abbrev pub overAll : {A : Type 0} → (A → ℕ) → List A → ℕ
+overAll f [] = 0
+overAll f (x ∷ xs) = f x + overAll f xs
+
+-- how often tick i is in a set
+abbrev pub isTick : (i j : ℕ) → ℕ
+isTick i j = cond (eqb i j) 1 0
+
+abbrev pub timesIn : (i : ℕ) → Ticks → ℕ
+timesIn i s = overAll (isTick i) s
+
+-- a sum of whole numbers over a list
+abbrev pub overAllℤ : {A : Type 0} → (A → ℤ) → List A → ℤ
+overAllℤ f [] = pos 0
+overAllℤ f (x ∷ xs) = f x +ℤ overAllℤ f xs
+
+-- the ticks 0 to t - 1
+abbrev pub ticksBelow : ℕ → Ticks
+ticksBelow zero = []
+ticksBelow (suc t) = t ∷ ticksBelow t
+
+-- the frames of cell c, newest first, "by their words as the call left them"
+abbrev pub frameIf : (named : Bool) (n : ℕ) → Answer → List ℕ → List (List ℕ)
+frameIf true n (number k) out = take (frameLength accumulated n) out ∷ []
+frameIf true n (refused r) out = []
+frameIf true n (entry e) out = []
+frameIf true n (fields f) out = []
+frameIf true n (normal z) out = []
+frameIf true n noData out = []
+frameIf false n a out = []
+
+abbrev pub frameTold : (n c : ℕ) → Listed → Told → List (List ℕ)
+frameTold n c (usual (emit d bank bin out)) t = frameIf (eqb d c) n (t .answer) (t .out)
+frameTold n c (usual (tick samples)) t = []
+frameTold n c (usual (dump d command bank phase block)) t = []
+frameTold n c (usual (integrate d)) t = []
+frameTold n c (usual (reading d lag loss)) t = []
+frameTold n c (odd shape call given) t = []
+
+abbrev pub framesTold : (n c : ℕ) → List Listed → List Told → List (List ℕ)
+framesTold n c [] ts = []
+framesTold n c (l ∷ ls) [] = []
+framesTold n c (l ∷ ls) (t ∷ ts) = framesTold n c ls ts ++ frameTold n c l t
+
+-- Demand 3, of one list of calls
+pub record Demand3 (sh : Shape) (cs : List Listed) : Type 0 where
+  -- call by call the machine's answers, and the frame buffers as they were left
+  pub tells : engineTells sh cs (freshMem sh) ≡ machineTells sh cs (M.start sh)
+  -- "11 never arises"
+  pub clean : (t : Told) → List·Memᴰ t (engineTells sh cs (freshMem sh)) → t .answer ≡ refused 11 → ⊥
+  -- other work memory is left alone
+  pub others : AllKeep cs
+  -- work memory keeps its length, and t is the machine's
+  pub words : length (memAfter sh cs) ≡ memoryWords sh
+  pub time : ((runL sh) .get (memAfter sh cs)) .t ≡ (machineAfter sh cs) .t
+  -- every place of every cell: the numbers in work memory are those of the machine's set
+  pub cells : (c : ℕ) → c < sh .cells
+      → EqualCell (sh .lags) (S.unitAt sh c ((runL sh) .get (memAfter sh cs))) (M.unitAt sh c (machineAfter sh cs))
+  -- every emitted frame: its bytes as its call left them are those of its set's numbers
+  pub frames : (c : ℕ) → c < sh .cells
+      → framesTold (sh .lags) c cs (engineTells sh cs (freshMem sh))
+      ≡ map (setFrame sh c ((M.unitAt sh c (machineAfter sh cs)) .xs) ((M.unitAt sh c (machineAfter sh cs)) .ys))
+      ((M.unitAt sh c (machineAfter sh cs)) .frames)
+  -- each tick taken is in exactly one place of every cell, and nothing else is in any
+  pub once : (c i : ℕ) → c < sh .cells → i < (machineAfter sh cs) .t
+      → overAll (timesIn i) (places (M.unitAt sh c (machineAfter sh cs))) ≡ 1
+  pub never : (c i : ℕ) → c < sh .cells → (machineAfter sh cs) .t ≤ i
+      → overAll (timesIn i) (places (M.unitAt sh c (machineAfter sh cs))) ≡ 0
+  -- so whatever is summed over ticks, as I and Q at each lag, sums over the places to the sum over all ticks taken
+  pub adds-up : (c : ℕ) → c < sh .cells → (f : ℕ → ℤ)
+      → overAllℤ (sumOver f) (places (M.unitAt sh c (machineAfter sh cs))) ≡ sumOver f (ticksBelow ((machineAfter sh cs) .t))
