@@ -1,2 +1,3 @@
--- Laws of the stores of bytes.
+-- Laws of the stores of bytes, and of those of a frame's words.
 pub mod Laws
+pub mod FrameStores

@@ -1,6 +1,6 @@
 // 32-bit words in bytes, low byte first: read, written, summed; lag numbers as two's complement words.
 ghost use mathlib.Core.Path.{_≡_};
-ghost use Prim.Native.Nat.{ℕ, _+_, _*_, _<_, _≤_};
+ghost use Prim.Native.Nat.{_+_, _*_, _<_, _≤_};
 ghost use lib.ListN.{length, getD, take};
 ghost use mathlib.Core.List.{[], _∷_, map};
 ghost use Rattle.lta_spec.specs.Words.{part, splice, every};

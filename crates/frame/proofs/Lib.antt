@@ -1,2 +1,2 @@
--- Laws of the bytes of a frame, lent and stored.
+-- Laws of tests.
 pub mod Laws

@@ -6,15 +6,7 @@ ghost use mathlib.Core.Bool.{true};
 ghost use Prim.Native.Nat.{_≤_};
 ghost use lib.ListN.{length};
 ghost use Rattle.lta_spec.specs.Bytes.{wordsOf};
-ghost use Rattle.lta_spec.specs.Shape.{lagCountOk};
 ghost use Rattle.lta_spec.specs.Frame.{header, fieldsOf, fixedOk, fieldsOk};
-
-// May a cell have n lags?
-pub fn lag_count_ok(n: u64) -> bool
-    ensures { λ r. ⌜ r ≡ lagCountOk n ⌝ }
-{
-    (2 <= n) & ((n <= 128) & (n % 2 == 0))
-}
 
 // Does each field keep to its rule? (No u32 is too wide for W5.)
 pub fn fields_ok(f: Fields) -> bool

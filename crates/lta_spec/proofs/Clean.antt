@@ -45,7 +45,8 @@ first-other (x ∷ xs) h r e =
     by-test true p ih q = ih q
     by-test false p ih q = let same : x .otherwise ≡ r = cc in ap other (sym same) ∙ p
 
-tests-other : (sh : Shape) (r : R.Run) (words : ℕ) (call : Call) → others (hostTests sh words ++ R.callTests sh r call) ≡ true
+tests-other : (sh : Shape) (r : R.Run) (words : ℕ) (call : Call)
+    → others (hostTests sh words ++ R.callTests sh r call) ≡ true
 unfolding hostTests
 tests-other sh r words (tick samples) = refl
 tests-other sh r words (dump c command bank phase block) = refl
@@ -68,7 +69,8 @@ step-other sh words call r =
     by-verdict (firstOf (hostTests sh words ++ R.callTests sh r call)) refl
   where
     by-verdict : (v : Verdict) → firstOf (hostTests sh words ++ R.callTests sh r call) ≡ v
-        → (judged {A = R.Step} v (λ why. record { answer = refusal why; out = lentTo call; run = r }) (R.accepted sh call r))
+        → (judged {A = R.Step} v (λ why. record { answer = refusal why; out = lentTo call; run = r })
+        (R.accepted sh call r))
         .answer ≡ refused 11 → ⊥
     by-verdict Accepted v e = accepted-other sh call r e
     by-verdict (Refused why) v e =

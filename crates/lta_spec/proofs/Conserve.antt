@@ -106,7 +106,8 @@ module _ (f : ℕ → ℕ) where
       integrateBy-total : (r s w : Bool)
           → overCell (tally f) ((M.integrateBy r s w k (M.binAt k c) c) .cell) ≡ overCell (tally f) c
       unfolding M.integrateBy M.release
-      integrateBy-total true s w = omega (arith, bin-set (M.binAt k c), lost 2 (c .held .content .members) (omega arith))
+      integrateBy-total true s w =
+          omega (arith, bin-set (M.binAt k c), lost 2 (c .held .content .members) (omega arith))
       integrateBy-total false true w =
           omega (
             arith,

@@ -1,12 +1,11 @@
 -- Demand 3 of document 01: one theorem for every list of calls after a setup.
-use Prim.Native.Nat.{ℕ, zero, suc, _≤_, _<_}
+use Prim.Native.Nat.{ℕ, zero, suc, _<_}
 use mathlib.Core.Path.{_≡_, refl, sym, ap, _∙_, subst}
 use mathlib.Core.Bool.{true}
 use mathlib.Core.List.{List, [], _∷_, append-nil, List·Memᴰ}
 use native.Mathlib.Omega.{arith}
-use lib.Dec.{leb}
 use lib.ListN.{length, getD, replicate}
-use Rattle.lta_spec.specs.Shape.{shapeOk, lagCountOk}
+use Rattle.lta_spec.specs.Shape.{shapeOk}
 use Rattle.lta_spec.specs.Place.{Stamped}
 use Rattle.lta_spec.specs.Machine as M
 use Rattle.lta_spec.specs.Machine.{Ticks}
@@ -15,10 +14,11 @@ use Rattle.lta_spec.specs.Engine as E
 use Rattle.lta_spec.specs.Memory as W
 use Rattle.lta_spec.specs.Memory.{runL}
 use Rattle.lta_spec.specs.Step as S
-use Rattle.lta_spec.specs.Demand.{Listed, AllStand, AllKeep, machineAfter, memAfter, framesTold, machineTells, Equal, EqualStamped, EqualCell, Demand3, isTick, places, ticksBelow}
+use Rattle.lta_spec.specs.Demand.{Listed, AllStand, AllKeep, machineAfter, memAfter, framesTold, machineTells}
+use Rattle.lta_spec.specs.Demand.{Equal, EqualStamped, EqualCell, Demand3, isTick, places, ticksBelow}
 use Rattle.lta_spec.specs.Demand.Listed.{usual, odd}
 use Rattle.lta_spec.specs.declared.Shape.{Shape}
-use Rattle.lta_spec.proofs.TestLaws.{and-both, and-le}
+use Rattle.lta_spec.proofs.ShapeLaws.{shaped}
 use Rattle.lta_spec.proofs.RowLaws.{numbers, numbers-size}
 use Rattle.lta_spec.proofs.SetLaws.{stored-inPhase, stored-quadrature, stored-edge, stored-centre}
 use Rattle.lta_spec.proofs.Carry.{row, mapStamped, mapBin, mapCell, bin-carry, loss-carry}
@@ -70,20 +70,6 @@ all-keep (usual call ∷ cs) a = (tt, all-keep cs (a .1))
 all-keep (odd shape call given ∷ cs) a =
     (ap (λ s. s .mem) (turned shape call given (R.start shape) (a .0) .engine), all-keep cs (a .1))
 
--- what a shape within its limits has
-record Shaped (sh : Shape) : Type 0 where
-  wide : 2 ≤ sh .lags
-  some : 0 < sh .bins
-
-shaped : (sh : Shape) → shapeOk sh ≡ true → Shaped sh
-unfolding shapeOk lagCountOk
-shaped sh ok =
-    let a = and-both (leb 1 (sh .cells)) _ ok in
-    let b = and-both (leb (sh .cells) 16) _ (a .1) in
-    let c = and-both (lagCountOk (sh .lags)) _ (b .1) in
-    let d = and-le 1 (sh .bins) _ (c .1) in
-    record { wide = and-le 2 (sh .lags) _ (c .0) .0; some = d .0 }
-
 -- a fresh cell has sent no frame
 none-sent : (sh : Shape) (k c : ℕ) → (getD (replicate k (R.freshUnit sh)) c (R.freshUnit sh)) .frames ≡ []
 none-sent sh zero c = refl
@@ -93,9 +79,10 @@ none-sent sh (suc k) (suc c) = none-sent sh k c
 pub demand3 : (sh : Shape) → shapeOk sh ≡ true → (cs : List Listed) → AllStand cs → Demand3 sh cs
 demand3 sh ok cs stand =
     let k = shaped sh ok in
-    let f = follow sh (k .wide) cs stand (W.start sh) (R.start sh) (start-same sh (k .some)) in
+    let f = follow sh (k .some-lags) cs stand (W.start sh) (R.start sh) (start-same sh (k .some-bins)) in
     let m = machineAfter sh cs in
-    let read : (runL sh) .get (memAfter sh cs) ≡ f .run = ap ((runL sh) .get) (f .mem) ∙ loaded sh (f .run) m (f .same) in
+    let read : (runL sh) .get (memAfter sh cs) ≡ f .run =
+    ap ((runL sh) .get) (f .mem) ∙ loaded sh (f .run) m (f .same) in
     let at : (c : ℕ) → c < sh .cells → Same (sh .lags) (sh .bins) (m .t) (S.unitAt sh c (f .run)) (R.unitAt sh c m) =
     λ c h. same-at _ _ (m .t) (f .run .units) (m .units) _ _ (f .same .units) c (omega (arith, f .same .cells)) in
     record {
@@ -109,7 +96,7 @@ demand3 sh ok cs stand =
       frames = λ c h.
           ap (framesTold (sh .lags) c cs) (f .tells)
           ∙ sym (append-nil (framesTold (sh .lags) c cs (machineTells sh cs (R.start sh))))
-          ∙ list-framed sh (k .wide) cs stand (W.start sh) (R.start sh) (start-same sh (k .some)) c h []
+          ∙ list-framed sh (k .some-lags) cs stand (W.start sh) (R.start sh) (start-same sh (k .some-bins)) c h []
           (λ gx gy. rw (none-sent sh (sh .cells) c)) [] [];
       once = λ c i h l. at c h .good .once (isTick i) ∙ one-below i (m .t) l;
       never = λ c i h l. at c h .good .once (isTick i) ∙ none-below i (m .t) l;

@@ -66,7 +66,8 @@ noRoom a e = le-ltb a openLimit (omega arith)
 
 pub edges : Edges
 unfolding
-    weight dataBinOk M.tickCell M.tickBy M.hasRoom E.tickBy E.hasRoom M.integrateAt M.integrateBy M.stateAfter M.stampAfter
+    weight dataBinOk M.tickCell M.tickBy M.hasRoom E.tickBy E.hasRoom M.integrateAt M.integrateBy M.stateAfter
+    M.stampAfter
     E.integrateAt E.integrateBy
 edges =
     record {

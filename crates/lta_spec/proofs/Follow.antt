@@ -18,7 +18,8 @@ use Rattle.lta_spec.specs.Engine as E
 use Rattle.lta_spec.specs.Memory as W
 use Rattle.lta_spec.specs.Memory.{runL}
 use Rattle.lta_spec.specs.Step as S
-use Rattle.lta_spec.specs.Demand.{Listed, AllStand, Refuses, machineTells, machineRun, engineTells, engineMem, overAll}
+use Rattle.lta_spec.specs.Demand.{Listed, AllStand, Refuses, machineTells, machineRun, engineTells, engineMem}
+use Rattle.lta_spec.specs.Demand.{overAll}
 use Rattle.lta_spec.specs.Demand.Listed.{usual, odd}
 use Rattle.lta_spec.specs.declared.Shape.{Shape}
 use Rattle.lta_spec.specs.declared.Refusal.{Refusal}
@@ -52,7 +53,8 @@ unit-ok n B t e m s =
     record {
       opened = ap (λ z. length (z .opened .members)) c ∙ length-numbers n (m .xs) (m .ys) (m .cell .opened .members);
       held =
-          ap (λ z. length (z .held .content .members)) c ∙ length-numbers n (m .xs) (m .ys) (m .cell .held .content .members);
+          ap (λ z. length (z .held .content .members)) c
+          ∙ length-numbers n (m .xs) (m .ys) (m .cell .held .content .members);
       losses =
           subst (λ z. Each lossCount (RowOk n) (z .losses)) (sym c)
           (length-map (m .cell .losses) _ ∙ f .losses, rows-ok n (m .xs) (m .ys) (m .cell .losses));
@@ -70,8 +72,14 @@ units-ok n B t (e ∷ es) [] a = absurd a
 units-ok n B t (e ∷ es) (m ∷ ms) a = (unit-ok n B t e m (a .0), units-ok n B t es ms (a .1))
 
 run-ok : (sh : Shape) (e : W.Run) (m : R.Run) → SameRun sh e m → RunOk sh e
-run-ok sh e m s =
-    (tt, (same-length _ _ (m .t) (e .units) (m .units) (s .units) ∙ s .cells, units-ok _ _ (m .t) (e .units) (m .units) (s .units)))
+run-ok sh e m s = (
+  tt,
+  (
+    same-length _ _ (m .t) (e .units) (m .units) (s .units)
+        ∙ s .cells,
+    units-ok _ _ (m .t) (e .units) (m .units) (s .units),
+  ),
+)
 
 -- the words of a related run: read back they are the run, and as many as the shape needs
 pub loaded : (sh : Shape) (e : W.Run) (m : R.Run) → SameRun sh e m → (runL sh) .get ((runL sh) .put e) ≡ e
@@ -152,7 +160,11 @@ module _ (shape : Shape) (call : Call) (given : List ℕ) (m : R.Run)
       by-verdict (Refused r) e w =
           record {
             why = r;
-            engine = rw (first-append (hostTests shape (length given)) (S.callTests shape call ((runL shape) .get given)), e);
+            engine = rw (
+              first-append (hostTests shape (length given))
+                  (S.callTests shape call ((runL shape) .get given)),
+              e,
+            );
             machine = rw (first-append (hostTests shape (length given)) (R.callTests shape m call), e);
           }
 
@@ -206,7 +218,8 @@ unfolding mapCell mapBin mapStamped M.binAt
 fresh-same sh some =
     let n = sh .lags in
     let B = sh .bins in
-    let empty : window n [] ≡ zeros (depth n) = take-all (depth n) (zeros (depth n)) (omega (arith, length-replicate {A = ℕ} (depth n) 0)) in
+    let empty : window n [] ≡ zeros (depth n) =
+    take-all (depth n) (zeros (depth n)) (omega (arith, length-replicate {A = ℕ} (depth n) 0)) in
     record {
       cell = λ gx gy. simp map-replicate;
       xs = sym empty;

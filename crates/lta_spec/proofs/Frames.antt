@@ -59,7 +59,8 @@ front out fs k e h = rw (splice-eq out 0 fs (omega arith)) (take-at fs _ k e)
 
 -- a tick's bytes join a unit's
 tick-at : (t : ℕ) (samples : List ℕ) (us : List R.Unit) (c : ℕ) (d : R.Unit) → c < length us
-    → (sh : Shape) (fs : List (List ℕ)) → Framed sh c fs (getD us c d) → Framed sh c fs (getD (R.tickUnits t samples us) c d)
+    → (sh : Shape) (fs : List (List ℕ)) → Framed sh c fs (getD us c d)
+    → Framed sh c fs (getD (R.tickUnits t samples us) c d)
 unfolding R.tickUnits
 tick-at t samples us c d h sh fs p = by-list samples us c h p
   where
@@ -86,7 +87,8 @@ set-at sh ms c d u d₀ fs gs h new old p = by-test (eqb d c) refl
         let other : c ≡ d → ⊥ = λ q. eqb-false d c e (sym q) in
         subst (Framed sh c fs) (sym (getD-set-other ms d c u d₀ other)) (λ gx gy. old e ∙ p gx gy)
 
-module _ (sh : Shape) (wide : 2 ≤ sh .lags) (e : W.Run) (m : R.Run) (s : SameRun sh e m) (c : ℕ) (inside : c < sh .cells)
+module _ (sh : Shape) (wide : 2 ≤ sh .lags) (e : W.Run) (m : R.Run) (s : SameRun sh e m) (c : ℕ)
+    (inside : c < sh .cells)
     (fs : List (List ℕ)) (p : Framed sh c fs (R.unitAt sh c m)) where
   there : c < length (m .units)
   there = omega (arith, s .cells)
@@ -196,7 +198,8 @@ module _ (sh : Shape) (wide : 2 ≤ sh .lags) (e : W.Run) (m : R.Run) (s : SameR
       by-verdict (Refused why) v = rw (refused-told call _) p
 
 -- a list of calls
-pub list-framed : (sh : Shape) → 2 ≤ sh .lags → (cs : List Listed) → AllStand cs → (e : W.Run) (m : R.Run) → SameRun sh e m
+pub list-framed : (sh : Shape) → 2 ≤ sh .lags → (cs : List Listed) → AllStand cs → (e : W.Run) (m : R.Run)
+    → SameRun sh e m
     → (c : ℕ) → c < sh .cells → (fs : List (List ℕ)) → Framed sh c fs (R.unitAt sh c m)
     → Framed sh c (framesTold (sh .lags) c cs (machineTells sh cs m) ++ fs) (R.unitAt sh c (machineRun sh cs m))
 unfolding machineTells machineRun

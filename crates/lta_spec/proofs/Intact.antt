@@ -39,7 +39,8 @@ free-or-empty : (limit flag ticks : ℕ) → ticks ≤ limit * flag → leb 1 fl
 free-or-empty limit zero ticks h = eq-eqb ticks 0 (omega arith)
 free-or-empty limit (suc flag) ticks h = rw (le-leb 1 (suc flag) (omega arith))
 
-module _ (n B t : ℕ) (xs ys : List ℕ) (c : Cell Ticks) (s : Sound B t c) (few : overCell length c ≤ t) (run : t ≤ runLimit)
+module _ (n B t : ℕ) (xs ys : List ℕ) (c : Cell Ticks) (s : Sound B t c) (few : overCell length c ≤ t)
+    (run : t ≤ runLimit)
   where
     abbrev e : Cell Row
     e = mapCell (row n xs ys) c

@@ -2,6 +2,7 @@
 -- frame, and the edges P1 to P12.
 pub mod WordLaws
 pub mod TestLaws
+pub mod ShapeLaws
 pub mod ByteLaws
 pub mod FrameLaws
 pub mod RoundTrips

@@ -264,10 +264,12 @@ numbers-limited n xs ys (i ∷ s) =
       centre = omega (arith, getD-sums r (numbers n xs ys s) 2 (tick-apart n xs ys i s), t .centre, u .centre);
       lags =
           ap (every (sumOk (suc (length s)))) (drop-sums 3 r (numbers n xs ys s))
-          ∙ every-sums 1 (length s) (suc (length s)) (omega arith) (drop 3 r) (drop 3 (numbers n xs ys s)) (t .lags) (u .lags);
+          ∙ every-sums 1 (length s) (suc (length s)) (omega arith) (drop 3 r) (drop 3 (numbers n xs ys s)) (t .lags)
+          (u .lags);
     }
 
-pub row-ok : (n : ℕ) (xs ys : List ℕ) (s : Ticks) (limit : ℕ) → length s ≤ limit → rowOk limit (numbers n xs ys s) ≡ true
+pub row-ok : (n : ℕ) (xs ys : List ℕ) (s : Ticks) (limit : ℕ) → length s ≤ limit
+    → rowOk limit (numbers n xs ys s) ≡ true
 unfolding rowOk
 row-ok n xs ys s limit h =
     let l = numbers-limited n xs ys s in

@@ -144,7 +144,8 @@ module _ (n B t : ℕ) (e : E.Unit) (m : R.Unit) (s : Same n B t e m) where
 
   pub dump-same : (l : Label)
       → (eqb (l .command) idle ≡ false → eqb (l .command) discard ≡ false → LabelSound B l)
-      → Same n B t (engineWith ((E.dumpCell n l t (e .cell)) .cell)) (machineWith ((M.dumpCell l t (m .cell)) .cell) (m .frames))
+      → Same n B t (engineWith ((E.dumpCell n l t (e .cell)) .cell))
+      (machineWith ((M.dumpCell l t (m .cell)) .cell) (m .frames))
   unfolding mapResult
   dump-same l h =
       change _ _ (m .frames)

@@ -186,7 +186,8 @@ module _ (sh : Shape) (wide : 2 ≤ sh .lags) (t : ℕ) (es : List E.Unit) (ms :
     (cells : length ms ≡ sh .cells) (units : AllSame (sh .lags) (sh .bins) t es ms) where
   -- the engine's verdict is the machine's
   pub verdict-same : (call : Call)
-      → firstOf (S.callTests sh call (record { t = t; units = es })) ≡ firstOf (R.callTests sh (record { t = t; units = ms }) call)
+      → firstOf (S.callTests sh call (record { t = t; units = es })) ≡ firstOf
+      (R.callTests sh (record { t = t; units = ms }) call)
   verdict-same (tick samples) =
       same-test (eqb (length samples) (2 * sh .cells)) _ _ _
       (λ _.
@@ -258,8 +259,11 @@ unfolding S.tickUnits R.tickUnits
 tick-units sh w t samples [] [] a = a
 tick-units sh w t samples [] (m ∷ ms) a = absurd a
 tick-units sh w t samples (e ∷ es) [] a = absurd a
-tick-units sh w t samples (e ∷ es) (m ∷ ms) a =
-    (tick-same _ _ t w (getD samples 0 0) (getD samples 1 0) e m (a .0), tick-units sh w t (drop 2 samples) es ms (a .1))
+tick-units sh w t samples (e ∷ es) (m ∷ ms) a = (
+  tick-same _ _ t w (getD samples 0 0) (getD samples 1 0) e m (a .0),
+  tick-units sh w t (drop 2 samples) es ms
+      (a .1),
+)
 
 tick-length : (t : ℕ) (samples : List ℕ) (ms : List R.Unit) → length (R.tickUnits t samples ms) ≡ length ms
 unfolding R.tickUnits
@@ -313,7 +317,8 @@ module _ (sh : Shape) (wide : 2 ≤ sh .lags) (t : ℕ) (es : List E.Unit) (ms :
       )
 
   pub accepted-same : (call : Call) → firstOf (R.callTests sh (record { t = t; units = ms }) call) ≡ Accepted
-      → SameDone sh (S.accepted sh call (record { t = t; units = es })) (R.accepted sh call (record { t = t; units = ms }))
+      → SameDone sh (S.accepted sh call (record { t = t; units = es }))
+      (R.accepted sh call (record { t = t; units = ms }))
   unfolding S.accepted R.accepted S.withCell R.withCell R.withFrame R.emitted
   accepted-same (tick samples) v =
       let a = pass (eqb (length samples) (2 * sh .cells)) _ _ v in
@@ -369,7 +374,8 @@ module _ (sh : Shape) (wide : 2 ≤ sh .lags) (t : ℕ) (es : List E.Unit) (ms :
         answer =
             ap (λ z. entry (rowSums lag z)) (loss-is sh wide t es ms limit cells units c (a .0) (loss - 1))
             ∙ ap entry
-            (sums-told (sh .lags) (u .xs) (u .ys) (getD (u .cell .losses) (loss - 1) []) lag (ltb-true lag (sh .lags) (d .0)));
+            (sums-told (sh .lags) (u .xs) (u .ys) (getD (u .cell .losses) (loss - 1) []) lag
+            (ltb-true lag (sh .lags) (d .0)));
         out = refl;
         run = record { t = refl; limit = limit; cells = cells; units = units };
       }

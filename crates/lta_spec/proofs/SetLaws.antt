@@ -13,9 +13,11 @@ use Rattle.lta_spec.specs.Tick.{Entry, fromByte, lagX, lagY, xDelay, yDe
 use Rattle.lta_spec.specs.Tick.{validAt, inPhaseAt, quadratureAt, edgeLag, centreLag}
 use Rattle.lta_spec.specs.Row.{ticksOf, edgeOf, centreOf, biased, unbiased, lagRow, tickRow, rowLags, rowSums}
 use Rattle.lta_spec.specs.Machine.{Ticks}
-use Rattle.lta_spec.specs.Numbers.{upTo, sumOver, countOver, inPhaseSum, quadratureSum, validCount, lagSums, setSums}
+use Rattle.lta_spec.specs.Numbers.{upTo, sumOver, countOver, inPhaseSum, quadratureSum, validCount, lagSums}
+use Rattle.lta_spec.specs.Numbers.{setSums}
 use Rattle.lta_spec.proofs.TickLaws.{inPhase-bound, quadrature-bound, biased-is}
-use Rattle.lta_spec.proofs.RowLaws.{numbers, numbers-size, length-numbers, tick-apart, getD-sums, sampled, zero-at}
+use Rattle.lta_spec.proofs.RowLaws.{numbers, numbers-size, length-numbers, tick-apart, getD-sums, sampled}
+use Rattle.lta_spec.proofs.RowLaws.{zero-at}
 
 -- sums of pairs
 pub regroup : (a b c d : ℤ) → (a +ℤ b) +ℤ (c +ℤ d) ≡ (a +ℤ c) +ℤ (b +ℤ d)
@@ -51,7 +53,8 @@ module _ (n : ℕ) (xs ys : List ℕ) where
 
   -- what a tick's row has at a lag
   tick-words : (k i : ℕ) → k < n
-      → (pos (getD (tickRow n (upTo xs i) (upTo ys i)) (3 + 2 * k) 0) ≡ pos peak +ℤ inPhaseAt n (upTo xs i) (upTo ys i) k)
+      → (pos (getD (tickRow n (upTo xs i) (upTo ys i)) (3 + 2 * k) 0) ≡ pos peak +ℤ inPhaseAt n (upTo xs i) (upTo ys i)
+      k)
       × (pos (getD (tickRow n (upTo xs i) (upTo ys i)) (4 + 2 * k) 0)
       ≡ pos peak +ℤ quadratureAt n (upTo xs i) (upTo ys i) k)
   unfolding tickRow inPhaseAt quadratureAt upTo

@@ -202,4 +202,5 @@ pub record Demand3 (sh : Shape) (cs : List Listed) : Type 0 where
       → overAll (timesIn i) (places (M.unitAt sh c (machineAfter sh cs))) ≡ 0
   -- so whatever is summed over ticks, as I and Q at each lag, sums over the places to the sum over all ticks taken
   pub adds-up : (c : ℕ) → c < sh .cells → (f : ℕ → ℤ)
-      → overAllℤ (sumOver f) (places (M.unitAt sh c (machineAfter sh cs))) ≡ sumOver f (ticksBelow ((machineAfter sh cs) .t))
+      → overAllℤ (sumOver f) (places (M.unitAt sh c (machineAfter sh cs))) ≡ sumOver f
+      (ticksBelow ((machineAfter sh cs) .t))

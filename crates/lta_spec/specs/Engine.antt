@@ -9,7 +9,8 @@ use lib.ListN.{getD, set, take, replicate}
 use Rattle.lta_spec.specs.Words.{sums, zeros}
 use Rattle.lta_spec.specs.Shape.{openLimit, binLimit}
 use Rattle.lta_spec.specs.Size.{depth}
-use Rattle.lta_spec.specs.Place.{Label, Stamped, Bin, Cell, Result, free, filling, ready, ordered, overrun, full, replaced, tooWide, holdoff, lossCount}
+use Rattle.lta_spec.specs.Place.{Label, Stamped, Bin, Cell, Result, free, filling, ready, ordered, overrun, full}
+use Rattle.lta_spec.specs.Place.{replaced, tooWide, holdoff, lossCount}
 use Rattle.lta_spec.specs.Call.{save, last, discard, idle, binIndex}
 use Rattle.lta_spec.specs.Row.{ticksOf, emptyRow, tickRow, entryWord, fromWord}
 

@@ -185,14 +185,11 @@ step sh call mem =
     record { answer = d .answer; out = d .out; mem = (runL sh) .put (d .run) })
 
 -- **Forecast**, "refused by 1, 2, 5, 11"
+abbrev pub forecastTests : Shape → (c : ℕ) → Run → List Test
+forecastTests sh c r = test (ltb c (sh .cells)) NoCell ∷ soundAt sh (forecastSound (r .t) (cellAt sh c r)) r ∷ []
+
 unfoldable pub forecastVerdict : Shape → (c : ℕ) → (mem : List ℕ) → Verdict
-forecastVerdict sh c mem =
-    let r = (runL sh) .get mem in
-    firstOf
-    (hostTests sh (length mem)
-    ++ test (ltb c (sh .cells)) NoCell
-    ∷ soundAt sh (forecastSound (r .t) (cellAt sh c r)) r
-    ∷ [])
+forecastVerdict sh c mem = firstOf (hostTests sh (length mem) ++ forecastTests sh c ((runL sh) .get mem))
 
 -- "never above 524,288 less the members of Open, and 0 only when none is left; otherwise free"
 pub record Foreseen (opened ticks : ℕ) : Type 0 where

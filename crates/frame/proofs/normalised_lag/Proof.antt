@@ -12,7 +12,7 @@ use Rattle.lta_spec.specs.Frame.{bodyOf}
 use Rattle.lta_spec.specs.FrameCalls.{quotient, normalVerdict}
 use Rattle.lta_spec.specs.declared.Verdict.the-variants as verdict
 use Rattle.lta_spec.proofs.RoundTrips.{Normalises, normalises, count-small}
-use Rattle.frame.proofs.Laws.{rest-lent}
+use Rattle.codec.proofs.FrameStores.{rest-lent}
 use borrow.Author.Needs.{needs}
 use Rattle.frame.proofs.normalised_lag.Statement.{statement}
 use Rattle.frame.proofs.normalised_lag.Tie as tie
@@ -37,12 +37,12 @@ inside : (c : tie.After-enum-told) (k : ℕ)
     k < 8 + 2 * a .n → 4 * k + 4 ≤ length (take (length s - 2) (drop 2 s))
 inside c k h =
     let s = now (c .before .before .before .before .args .bytes) in
-    rw (rest-lent s) (simp length-drop (omega (arith, fine c .frame .size)))
+    rw (rest-lent 2 s) (simp length-drop (omega (arith, fine c .frame .size)))
 
 count : (c : tie.After-word-at)
     → c .word-at .result ≡ getD (bodyOf (now (c .before .before .before .before .before .before .args .bytes))) 3 0
 count c =
-    rw (rest-lent (now (c .before .before .before .before .before .before .args .bytes))) at (c .word-at .ensures)
+    rw (rest-lent 2 (now (c .before .before .before .before .before .before .args .bytes))) at (c .word-at .ensures)
 
 normal-verdict-requires : tie.Need-normal-verdict-requires
 normal-verdict-requires c κs = search needs
@@ -123,7 +123,7 @@ returns-3 c =
       toZ-ofZ w32 (i .number-of .result) (record { sfits = i .number-of .ok }),
       i .number-of .ensures,
       i .before .word-at2 .ensures,
-      rest-lent s,
+      rest-lent 2 s,
       count (t .before),
     ) in
     let im : c .quotient-of2 .result ≡ quotient (signed (getD ws (7 + 2 * a .k + 1) 0)) (getD ws 3 0) =
@@ -132,7 +132,7 @@ returns-3 c =
       toZ-ofZ w32 (q .number-of2 .result) (record { sfits = q .number-of2 .ok }),
       q .number-of2 .ensures,
       q .before .word-at3 .ensures,
-      rest-lent s,
+      rest-lent 2 s,
       count (t .before),
     ) in
     rw (told d, ne-eqb _ _ some, re, im)

@@ -1,14 +1,11 @@
 -- Header words and lag words are put one behind the other, then the sum of what stands there.
-use mathlib.Core.Path.{_≡_, _∙_}
-use mathlib.Core.List.{_++_}
+use mathlib.Core.Path.{_∙_}
 use lib.ListN.{length, length-map}
 use denote.Ref.{now}
-use Rattle.lta_spec.specs.Words.{splice}
-use Rattle.lta_spec.specs.Bytes.{bytesOf, numberWord}
-use Rattle.lta_spec.specs.Frame.{lagWords, header}
+use Rattle.lta_spec.specs.Bytes.{numberWord}
+use Rattle.lta_spec.specs.Frame.{lagWords}
 use Rattle.lta_spec.proofs.ByteLaws.{lags-below}
-use Rattle.lta_spec.proofs.RoundTrips.{valid, length-header, header-below}
-use Rattle.frame.proofs.Laws.{two-runs, sum-put}
+use Rattle.codec.proofs.FrameStores.{body-put}
 use borrow.Author.Needs.{needs}
 use native.Mathlib.Omega.{arith}
 use Rattle.frame.proofs.put_body.Statement.{statement}
@@ -46,17 +43,11 @@ returns c =
     let v = r .before .before .before .before in
     let h = v .before .before .before in
     let a = h .before .before .args in
-    let l = now (a .body) in
     let zs = now (a .lags) in
-    let ok = h .before .before .pre in
-    let runs : r .put-lags .last .0 ≡ splice l 0 (bytesOf (header (a .f) ++ lagWords zs)) =
-    r .put-lags .ensures
-    ∙ rw (v .put-words .ensures, h .header-words .ensures)
-    (two-runs l (header (a .f)) (lagWords zs) 7 (length-header (a .f))) in
     p .put-word .ensures
-    ∙ rw (q .sum-words .ensures, runs)
-    (sum-put l (header (a .f)) (lagWords zs) 7 (length zs) (length-header (a .f)) (length-map zs numberWord)
-    (header-below (a .f) (valid (a .f) (ok .0))) (lags-below zs) (omega arith))
+    ∙ body-put (now (a .body)) (a .f) (lagWords zs) (length zs) (h .before .before .pre .0) (lags-below zs)
+    (length-map zs numberWord) (omega arith)
+    (rw (v .put-words .ensures, h .header-words .ensures) at (r .put-lags .ensures)) (q .sum-words .ensures)
 
 pub put-body-spec : {M : Type 1} → statement M
 put-body-spec =

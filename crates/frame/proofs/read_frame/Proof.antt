@@ -6,7 +6,7 @@ use denote.Ref.{now}
 use Rattle.lta_spec.specs.FrameCalls.{readVerdict}
 use Rattle.lta_spec.specs.declared.Verdict.the-variants as verdict
 use Rattle.lta_spec.proofs.RoundTrips.{Accepted, accepted}
-use Rattle.frame.proofs.Laws.{rest-lent}
+use Rattle.codec.proofs.FrameStores.{rest-lent}
 use borrow.Author.Needs.{needs}
 use Rattle.frame.proofs.read_frame.Statement.{statement}
 use Rattle.frame.proofs.read_frame.Tie as tie
@@ -40,7 +40,7 @@ part-fields-of-end c = search needs
 fields-of-requires : tie.Need-fields-of-requires
 fields-of-requires c κs =
     let s = now (c .before .before .before .before .before .args .bytes) in
-    rw (rest-lent s) (simp length-drop (omega (arith, fine (c .before) .size)))
+    rw (rest-lent 2 s) (simp length-drop (omega (arith, fine (c .before) .size)))
 
 returns : tie.Need-returns
 returns c = rw (← sym (c .before .r .given .1) ∙ c .before .before .before .read-verdict .ensures)
@@ -48,7 +48,7 @@ returns c = rw (← sym (c .before .r .given .1) ∙ c .before .before .before .
 returns-2 : tie.Need-returns-2
 returns-2 c =
     let s = now (c .before .before .before .before .before .before .args .bytes) in
-    rw (told (c .before .before), c .fields-of .ensures, rest-lent s)
+    rw (told (c .before .before), c .fields-of .ensures, rest-lent 2 s)
 
 pub read-frame-spec : {M : Type 1} → statement M
 read-frame-spec =

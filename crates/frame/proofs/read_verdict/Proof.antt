@@ -11,7 +11,8 @@ use Rattle.lta_spec.specs.Shape.{lagCountOk}
 use Rattle.lta_spec.specs.Frame.{accumulated, frameLength, bodyOf}
 use Rattle.lta_spec.specs.FrameCalls.{marked, summed, ruled, readVerdict}
 use Rattle.lta_spec.proofs.RoundTrips.{count-small}
-use Rattle.frame.proofs.Laws.{failed, held, rest-lent}
+use Rattle.codec.proofs.FrameStores.{rest-lent}
+use Rattle.frame.proofs.Laws.{failed, held}
 use borrow.Author.Needs.{needs}
 use Rattle.frame.proofs.read_verdict.Statement.{statement}
 use Rattle.frame.proofs.read_verdict.Tie as tie
@@ -37,7 +38,7 @@ sum-told : (c : tie.After-sum-ok)
     → let a = c .before .before .before .before .before .before .before .before .args in
     c .sum-ok .result ≡ summed (7 + 2 * a .n) (bodyOf (now (a .bytes)))
 sum-told c =
-    rw (rest-lent (now (c .before .before .before .before .before .before .before .before .args .bytes)))
+    rw (rest-lent 2 (now (c .before .before .before .before .before .before .before .before .args .bytes)))
     at (c .sum-ok .ensures)
 
 rules-told : (c : tie.After-rules-ok)
@@ -45,7 +46,7 @@ rules-told : (c : tie.After-rules-ok)
     c .rules-ok .result ≡ ruled (a .n) (bodyOf (now (a .bytes)))
 rules-told c =
     let d = c .before .before .before .before .before in
-    rw (rest-lent (now (d .before .before .before .before .before .args .bytes))) at (c .rules-ok .ensures)
+    rw (rest-lent 2 (now (d .before .before .before .before .before .args .bytes))) at (c .rules-ok .ensures)
 
 lag-count-ok-requires : tie.Need-lag-count-ok-requires
 lag-count-ok-requires c κs = search needs
@@ -115,7 +116,7 @@ rules-ok-requires c κs =
     let d = c .before .before .before in
     let a = d .before .before .before .before .before .before .args in (
       small (d .before .before .before),
-      rw (rest-lent (now (a .bytes))) (simp length-drop (omega (arith, d .before .before .if2 .left))),
+      rw (rest-lent 2 (now (a .bytes))) (simp length-drop (omega (arith, d .before .before .if2 .left))),
     )
 
 returns-5 : tie.Need-returns-5

@@ -13,7 +13,7 @@ use Rattle.lta_spec.specs.declared.Verdict.the-variants as verdict
 use Rattle.lta_spec.specs.Answer.Answer.{number}
 use Rattle.lta_spec.proofs.WordLaws.{length-splice}
 use Rattle.lta_spec.proofs.RoundTrips.{Writes, writes, count-small}
-use Rattle.frame.proofs.Laws.{markedOut, tail-lent, tail-back, frame-left}
+use Rattle.codec.proofs.FrameStores.{markedOut, tail-lent, tail-back, frame-left}
 use borrow.Author.Needs.{needs}
 use Rattle.frame.proofs.write_frame.Statement.{statement}
 use Rattle.frame.proofs.write_frame.Tie as tie

@@ -1,8 +1,8 @@
 -- The three tests.
 use mathlib.Core.Bool.{and-true}
 use Rattle.lta_spec.specs.Shape.{lagCountOk}
-use Rattle.header.proofs.lag_count_ok.Statement.{statement}
-use Rattle.header.proofs.lag_count_ok.Tie as tie
+use Rattle.host.proofs.lag_count_ok.Statement.{statement}
+use Rattle.host.proofs.lag_count_ok.Tie as tie
 
 returns : tie.Need-returns
 unfolding lagCountOk

@@ -1,0 +1,3 @@
+-- The laws of an integration.
+pub mod MoveLaws
+pub mod IntegrateLaws

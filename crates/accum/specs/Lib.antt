@@ -1,0 +1,2 @@
+-- What the contracts of an integration cite.
+pub mod Integrates

@@ -1,0 +1,2 @@
+-- The laws of a dump.
+pub mod DumpLaws

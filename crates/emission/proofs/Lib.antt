@@ -1,0 +1,2 @@
+-- Laws of what an emission stores.
+pub mod Laws

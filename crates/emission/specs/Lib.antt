@@ -1,0 +1,2 @@
+-- What the frame of a bin wants.
+pub mod Emits

@@ -1,0 +1,101 @@
+-- The terms that the lag loop writes are document 01's row of a tick.
+use mathlib.Core.Path.{_≡_, refl, sym, ap, _∙_}
+use mathlib.Core.List.{List, [], _∷_, _++_, map}
+use Prim.Native.Nat.{ℕ, zero, suc, _+_, _*_, _-_, _/_, _≤_}
+use native.Mathlib.Nat.{add-zero}
+use native.Mathlib.Omega.{arith}
+use lib.ListN.{length, getD, length-append, List·getD-map}
+use Rattle.lta_spec.specs.Words.{part}
+use Rattle.lta_spec.specs.Size.{depth}
+use Rattle.lta_spec.specs.Tick.{Entry, ago, xDelay, yDelay, bothValid, validAt, inPhaseAt, quadratureAt}
+use Rattle.lta_spec.specs.Row.{biased, fromWord, lagRow}
+use Rattle.lta_spec.proofs.WordLaws.{getD-part}
+use Rattle.signal.specs.Signal.{digit, phase, contribution}
+use Rattle.signal.proofs.SignalLaws.{digits, contribution-small, in-phase-is, quadrature-is}
+use Rattle.lag.specs.Lag.{lagTerm, lagPair, lagTerms, entriesAt}
+
+pub length-lagTerms : (xd xp yd yp : List ℕ) (h : ℕ) → length (lagTerms xd xp yd yp h) ≡ 4 * h
+length-lagTerms xd xp yd yp zero = refl
+length-lagTerms xd xp yd yp (suc h) = simp length-append (omega (arith, length-lagTerms xd xp yd yp h))
+
+-- an entry of a stored register; what lies past its end reads as silence, as a cleared word does
+pub ago-is : (ws : List ℕ) (d : ℕ) → ago (map fromWord ws) d ≡ fromWord (getD ws d 0)
+unfolding fromWord
+ago-is ws d = List·getD-map fromWord ws d 0
+
+-- the validity of a lag, by the words of the registers
+pub valid-is : (l : List ℕ) (x y n k i j : ℕ) → i ≡ x + xDelay k → j ≡ y + yDelay n k → xDelay k ≤ n / 2
+    → bothValid (fromWord (getD l i 0)) (fromWord (getD l j 0)) ≡ validAt n (entriesAt n x l) (entriesAt n y l) k
+unfolding validAt
+valid-is l x y n k i j ei ej h =
+    rw (ago-is (part x (depth n) l) (xDelay k), ago-is (part y (depth n) l) (yDelay n k), ei, ej)
+    (rw (getD-part l x (depth n) (xDelay k) (omega arith), getD-part l y (depth n) (yDelay n k) (omega arith)))
+
+join : {ps qs us vs : List ℕ} → ps ≡ qs → us ≡ vs → ps ++ us ≡ qs ++ vs
+join e f = cc
+
+-- a row of lags, one lag more at its end
+module _ (n : ℕ) (xs ys : List Entry) where
+  abbrev pub rowPair : (k : ℕ) → List ℕ
+  rowPair k = biased (inPhaseAt n xs ys k) ∷ biased (quadratureAt n xs ys k) ∷ []
+
+  pub length-lagRow : (m k : ℕ) → length (lagRow n xs ys m k) ≡ 2 * m
+  length-lagRow zero k = refl
+  length-lagRow (suc m) k = omega (arith, length-lagRow m (suc k))
+
+  lagRow-next : (m k : ℕ) → lagRow n xs ys (suc m) k ≡ lagRow n xs ys m k ++ rowPair (k + m)
+  lagRow-next zero k = rw add-zero
+  lagRow-next (suc m) k =
+      let e : k + suc m ≡ suc k + m = omega arith in
+      ap (λ (r : List ℕ). biased (inPhaseAt n xs ys k) ∷ biased (quadratureAt n xs ys k) ∷ r)
+      (lagRow-next m (suc k) ∙ ap (λ (q : ℕ). lagRow n xs ys m (suc k) ++ rowPair q) (sym e))
+
+-- the row of two stored registers
+module _ (n : ℕ) (us vs : List ℕ) where
+  abbrev pub stored : (i j turn : ℕ) → ℕ
+  stored i j turn =
+      contribution (digit (getD us i 0)) (phase (getD us i 0)) (digit (getD vs j 0)) (phase (getD vs j 0)) turn
+
+  stored-small : (i j turn : ℕ) → stored i j turn ≤ 196
+  stored-small i j turn = contribution-small _ _ _ _ turn (digits (getD us i 0) (getD vs j 0))
+
+  rowPair-is : (k : ℕ)
+      → rowPair n (map fromWord us) (map fromWord vs) k
+      ≡ stored (xDelay k) (yDelay n k) 0 ∷ stored (xDelay k) (yDelay n k) 12 ∷ []
+  unfolding inPhaseAt quadratureAt
+  rowPair-is k =
+      let x : ℕ = getD us (xDelay k) 0 in
+      let y : ℕ = getD vs (yDelay n k) 0 in
+      rw (ago-is us (xDelay k), ago-is vs (yDelay n k), ← in-phase-is x y, ← quadrature-is x y)
+
+  pub lagRow-small : (m k i : ℕ) → getD (lagRow n (map fromWord us) (map fromWord vs) m k) i 0 ≤ 196
+  lagRow-small zero k i = omega arith
+  lagRow-small (suc m) k zero =
+      let e = ap (λ (r : List ℕ). getD r 0 0) (rowPair-is k) in
+      omega (arith, e, stored-small (xDelay k) (yDelay n k) 0)
+  lagRow-small (suc m) k (suc zero) =
+      let e = ap (λ (r : List ℕ). getD r 1 0) (rowPair-is k) in
+      omega (arith, e, stored-small (xDelay k) (yDelay n k) 12)
+  lagRow-small (suc m) k (suc (suc i)) = lagRow-small m (suc k) i
+
+  -- decoded registers of N = 2h lags: X newest first, Y oldest first
+  module _ (xd xp yd yp : List ℕ) (h : ℕ) (even : n ≡ 2 * h)
+      (same : (i j turn : ℕ) → i ≤ h → j ≤ h → lagTerm xd xp yd yp i j turn ≡ stored i (h - j) turn) where
+    lagPair-is : (i j k : ℕ) → i ≤ h → j ≤ h → xDelay k ≡ i → yDelay n k ≡ h - j
+        → rowPair n (map fromWord us) (map fromWord vs) k ≡ lagPair xd xp yd yp i j
+    lagPair-is i j k hi hj ex ey =
+        rowPair-is k ∙ rw (ex, ey) (rw (same i j 0 hi hj, same i j 12 hi hj))
+
+    pub lagTerms-are : (j : ℕ) → j ≤ h
+        → lagTerms xd xp yd yp j ≡ lagRow n (map fromWord us) (map fromWord vs) (2 * j) 0
+    lagTerms-are zero hj = refl
+    lagTerms-are (suc j) hj =
+        let k = 2 * j in
+        let e : suc (suc k) ≡ 2 * suc j = omega arith in
+        let xs : List Entry = map fromWord us in
+        let ys : List Entry = map fromWord vs in
+        let low = lagPair-is j j (0 + k) (omega arith) (omega arith) (omega arith) (omega arith) in
+        let high = lagPair-is (suc j) j (0 + suc k) hj (omega arith) (omega arith) (omega arith) in
+        join (join (lagTerms-are j (omega arith)) (sym low) ∙ sym (lagRow-next n xs ys k 0)) (sym high)
+        ∙ sym (lagRow-next n xs ys (suc k) 0)
+        ∙ ap (λ (m : ℕ). lagRow n xs ys m 0) e

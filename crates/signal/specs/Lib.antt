@@ -1,0 +1,2 @@
+-- What one lag adds, on biased numbers.
+pub mod Signal

@@ -1,0 +1,2 @@
+-- What the contracts of a cell's tick cite.
+pub mod Ticks

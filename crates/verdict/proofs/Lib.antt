@@ -1,0 +1,2 @@
+-- Laws of whole work memory.
+pub mod RunLaws

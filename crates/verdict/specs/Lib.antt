@@ -1,0 +1,2 @@
+-- What the contracts on whole work memory cite.
+pub mod Runs

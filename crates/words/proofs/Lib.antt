@@ -1,0 +1,3 @@
+-- Laws of moves and of tests on parts, for the callers too.
+pub mod MoveLaws
+pub mod PartTests

@@ -1,0 +1,23 @@
+-- A word below 256 is one that is at most 255.
+use mathlib.Core.Path.{sym, _∙_}
+use lib.Dec.{leb·suc-suc}
+use denote.Ref.{now}
+use borrow.Author.Needs.{needs}
+use Rattle.lta_spec.specs.Words.{part}
+use Rattle.lta_spec.specs.Row.{entryOk}
+use Rattle.words.specs.Moves.{atMost}
+use Rattle.words.proofs.PartTests.{every-same}
+use Rattle.words.proofs.entries_ok.Statement.{statement}
+use Rattle.words.proofs.entries_ok.Tie as tie
+
+all-le-requires : tie.Need-all-le-requires
+all-le-requires c κs = search needs
+
+returns : tie.Need-returns
+returns c =
+    let a = c .before .before .args in
+    c .all-le .ensures
+    ∙ sym (every-same entryOk (atMost 255) (λ x. leb·suc-suc x 255) (part (a .at) (a .n) (now (a .s))))
+
+pub entries-ok-spec : {M : Type 1} → statement M
+entries-ok-spec = tie.close (tie.spec all-le-requires returns)
