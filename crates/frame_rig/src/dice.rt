@@ -1,0 +1,51 @@
+// Pseudo-random numbers: a frame has a seed, and number i of its draws depends on these two alone.
+use lta_spec::Fields;
+use std::num::wrapping_add_u64;
+
+// The next of Marsaglia's xorshift numbers after x.
+fn next(x: u64) -> u64 {
+    let a = x ^ (x << 13);
+    let b = a ^ (a >> 7);
+    b ^ (b << 17)
+}
+
+// Number i of the draws of a seed.
+fn draw(seed: u64, i: u64) -> u64 {
+    let a = next(wrapping_add_u64(seed, 88172645463325252));
+    let b = next(wrapping_add_u64(a, i));
+    let c = next(wrapping_add_u64(b, 0x9e37_79b9_7f4a_7c15));
+    next(c) >> 4
+}
+
+// Draw i as a number below `end`.
+pub fn below(seed: u64, i: u64, end: u64) -> u64 {
+    let x = draw(seed, i);
+    if end == 0 { 0 } else { x % end }
+}
+
+// Draw i as a number from 0 to `most`, in every fourth case one of the two ends.
+pub fn upto(seed: u64, i: u64, most: u32) -> u32 {
+    let x = draw(seed, i);
+    match x % 8 {
+        0 => 0,
+        1 => most,
+        _ => ((x >> 8) % (most as u64 + 1) % 4294967296) as u32,
+    }
+}
+
+// Fields that keep document 01's rules.
+pub fn some_fields(seed: u64) -> Fields {
+    let ticks = upto(seed, 0, 16777215);
+    Fields {
+        kind: 2,
+        cell: upto(seed, 1, 15),
+        block: upto(seed, 2, 255),
+        bin: upto(seed, 3, 999),
+        bank: upto(seed, 4, 1),
+        ticks: ticks,
+        centre: upto(seed, 5, ticks),
+        edge: upto(seed, 6, ticks),
+        second: upto(seed, 7, 4294967295),
+        offset: upto(seed, 8, 255999999),
+    }
+}
