@@ -1,0 +1,118 @@
+-- The words of a bin as the frame's writer takes them.
+use mathlib.Core.Path.{_≡_, ap, subst, _∙_}
+use mathlib.Core.Bool.{_&&_}
+use mathlib.Core.List.{List}
+use Prim.Native.Nat.{ℕ, _+_, _*_, _-_, _<_}
+use native.Mathlib.Omega.{arith}
+use lib.Dec.{leb, ltb, eqb}
+use lib.ListN.{length, getD, take, drop, length-drop}
+use lib.Seq.{getD-drop, drop-drop, take-all}
+use borrow.Author.Tests.{leb-true, ltb-true}
+use Rattle.lta_spec.specs.Words.{part}
+use Rattle.lta_spec.specs.Shape.{runLimit, binLimit}
+use Rattle.lta_spec.specs.Size.{rowWords, binWords}
+use Rattle.lta_spec.specs.Layout.{word, block, pair, fields}
+use Rattle.lta_spec.specs.Place.{Stamped, Bin, ready}
+use Rattle.lta_spec.specs.Row.{rowOk}
+use Rattle.lta_spec.specs.Frame.{accumulated, frameLength}
+use Rattle.lta_spec.specs.Call.{bankOk, binIndex}
+use Rattle.lta_spec.specs.Call.Call.{emit}
+use Rattle.lta_spec.specs.Engine.{Row, stamped, binAt}
+use Rattle.lta_spec.specs.Damage as D
+use Rattle.lta_spec.specs.Memory.{binL}
+use Rattle.lta_spec.specs.Step as S
+use Rattle.lta_spec.specs.declared.Shape.{Shape}
+use Rattle.lta_spec.specs.declared.Verdict.the-variants.{Accepted}
+use Rattle.lta_spec.proofs.TestLaws.{and-both, pass}
+use Rattle.lta_spec.proofs.WordLaws.{lent}
+use Rattle.lta_spec.proofs.MemoryLaws.{bin-law, bin-width}
+use Rattle.layout.specs.Lays.{Lays}
+use Rattle.layout.specs.Offsets.{stateAt}
+use Rattle.layout.specs.Cells.{placesOf}
+use Rattle.layout.proofs.LaysLaws.{lays-part, lays-to}
+use Rattle.layout.proofs.CellLaws.{laid}
+use Rattle.layout.proofs.Fields as F
+use Rattle.emission.specs.Emits.{Emits}
+use Rattle.verdict.specs.Runs.{runOf, CellPart}
+use Rattle.verdict.proofs.RunLaws.{shape-ok}
+use Rattle.lta.specs.Emission.{EmitsFrom, frameAt}
+use Rattle.lta.proofs.StepLaws.{takes}
+
+module _ (n : ℕ) {ws : List ℕ} {b : Bin Row} (l : Lays (binL n) ws b) where
+  pub bin-size : length ws ≡ binWords n
+  bin-size = l .size ∙ bin-width n
+
+  -- the stamp and the row of a bin's words
+  pub bin-content : stamped (drop 2 ws) (getD ws 1 0) ≡ b .content
+  unfolding binL pair word block fields
+  bin-content =
+      let row : take (rowWords n) (drop 1 (drop 1 ws)) ≡ drop 2 ws =
+      rw (drop-drop 1 1 ws) (take-all (rowWords n) (drop 2 ws) (simp length-drop (omega (arith, bin-size)))) in
+      let stamp : getD (drop 1 ws) 0 0 ≡ getD ws 1 0 = getD-drop 1 ws 0 0 in
+      rw (← row, ← stamp) (ap (λ (b : Bin Row). b .content) (l .is))
+
+-- what the tests of an emission showed
+pub emits : (s : Shape) (mem : List ℕ) (c bank bin : ℕ) (out : List ℕ)
+    → Accepted ≡ S.verdict s mem (emit c bank bin out) → EmitsFrom s mem c bank bin out
+emits s mem c bank bin out e =
+    let q = takes s mem (emit c bank bin out) e in
+    let r = runOf s mem in
+    let k = binIndex (s .bins) bank bin in
+    let x = pass (ltb c (s .cells)) _ _ (q .tests) in
+    let y = pass (bankOk bank && ltb bin (s .bins)) _ _ (x .1) in
+    let f = D.emitSound (s .lags) (r .t) k (S.cellAt s c r) in
+    let z = pass (leb (r .t) runLimit && f) _ _ (y .1) in
+    let v = pass (eqb ((binAt (s .lags) k (S.cellAt s c r)) .state) ready) _ _ (z .1) in
+    let w = pass (leb (frameLength accumulated (s .lags)) (length out)) _ _ (v .1) in
+    let named = and-both (bankOk bank) (ltb bin (s .bins)) (y .0) in
+    let sound = and-both (leb (r .t) runLimit) f (z .0) in
+    record {
+      hosted = q .hosted;
+      there = ltb-true c (s .cells) (x .0);
+      banked = ltb-true bank 2 (named .0);
+      numbered = ltb-true bin (s .bins) (named .1);
+      limited = leb-true (r .t) runLimit (sound .0);
+      sound = sound .1;
+      room = leb-true _ _ (w .0);
+    }
+
+-- the words of the bin, as code lends them from the cell's words
+module _ (s : Shape) (mem : List ℕ) (c bank bin : ℕ) (out : List ℕ) (q : EmitsFrom s mem c bank bin out)
+    (cell : List ℕ) (p : CellPart s mem c cell) (k at w : ℕ) (e : k ≡ binIndex (s .bins) bank bin)
+    (below : k < 2 * s .bins) (o : at ≡ stateAt (s .lags) k) (v : w ≡ binWords (s .lags)) where
+  abbrev pub lentBin : List ℕ
+  lentBin = take (at + w - at) (drop at cell)
+
+  bin-laid : Lays (binL (s .lags)) lentBin (binAt (s .lags) (binIndex (s .bins) bank bin) (S.cellAt s c (runOf s mem)))
+  bin-laid =
+      let n = s .lags in
+      let whole = lays-part (bin-law n) (F.bin n (s .bins) k below) (laid (p .fits)) in
+      let here =
+      subst (λ (m : ℕ). Lays (binL n) (part (stateAt n k) m cell) (binAt n k (placesOf n (s .bins) cell))) (bin-width n)
+      whole in
+      rw (o, v, lent cell (stateAt n k) (binWords n))
+      (lays-to here (ap (λ u. binAt n k (u .cell)) (p .unit) ∙ ap (λ i. binAt n i (S.cellAt s c (runOf s mem))) e))
+
+  pub emits-bin : Emits s c bank bin lentBin
+  unfolding D.emitSound
+  emits-bin =
+      let b = binAt (s .lags) (binIndex (s .bins) bank bin) (S.cellAt s c (runOf s mem)) in
+      let content = bin-content (s .lags) bin-laid in
+      let ok = and-both (D.contentOk binLimit ((runOf s mem) .t) (b .content)) _ (q .sound) .0 in
+      let parts = and-both (rowOk binLimit (b .content .members)) _ ok in
+      let row : drop 2 lentBin ≡ b .content .members = ap (λ (x : Stamped Row). x .members) content in
+      let stamp : getD lentBin 1 0 ≡ b .content .stamp = ap (λ (x : Stamped Row). x .stamp) content in
+      let early = leb-true (b .content .stamp) ((runOf s mem) .t) (parts .1) in
+      record {
+        shaped = shape-ok s mem (q .hosted);
+        celled = q .there;
+        banked = q .banked;
+        numbered = q .numbered;
+        sized = bin-size (s .lags) bin-laid;
+        limited = rw row (parts .0);
+        stamped = omega (arith, stamp, early, q .limited);
+      }
+
+  pub frame-is : S.rowFrame s c bank bin (stamped (drop 2 lentBin) (getD lentBin 1 0))
+      ≡ frameAt s c bank bin (runOf s mem)
+  frame-is = ap (S.rowFrame s c bank bin) (bin-content (s .lags) bin-laid)

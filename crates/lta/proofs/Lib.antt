@@ -1,0 +1,5 @@
+-- Laws of the calls on whole work memory.
+pub mod CellsLaws
+pub mod StartLaws
+pub mod StepLaws
+pub mod EmitLaws
