@@ -22,7 +22,8 @@ use Rattle.layout.specs.Cells.{Fits, Small, unitOf, placesOf, withPlaces}
 use Rattle.layout.proofs.LaysLaws.{word-of, row-length, lays-set, lays-move}
 use Rattle.layout.proofs.Fields as F
 use Rattle.layout.proofs.CellLaws.{laid}
-use Rattle.layout.proofs.RowLaws.{folds, sums-zeros, small-zeros}
+use Rattle.lta_spec.proofs.RowLaws.{zeros-sums}
+use Rattle.layout.proofs.RowLaws.{folds, small-zeros}
 use Rattle.accum.specs.Integrates.{heldLost, heldJoined, binReplaced}
 use Rattle.bins.proofs.BinLaws.{with′, lays-state, lays-stamp, lays-drop, lays-join, bins-long, start}
 
@@ -115,6 +116,6 @@ module _ {l : List ℕ} {n bins : ℕ} (f : Fits l n bins) (k : ℕ) (j : k < 2 
   replacing =
       let c = placesOf n bins l in
       let z : sums (emptyRow n) (c .held .content .members) ≡ c .held .content .members =
-      sums-zeros (rowWords n) (c .held .content .members) (row-length (laid f) (F.heldRow n bins)) in
+      zeros-sums (rowWords n) (c .held .content .members) (row-length (laid f) (F.heldRow n bins)) in
       ap (λ (x : Unit). withPlaces x (heldJoined n k filling (getD l heldStampAt 0) (x .cell))) dropped-is
       ∙ rw (dropped-bin, z, word-of (laid f) (F.heldStamp n bins), set-set (c .bins) k emptied _)

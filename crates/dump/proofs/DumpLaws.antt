@@ -35,7 +35,8 @@ use Rattle.layout.specs.Offsets.{
 use Rattle.layout.specs.Cells.{Small, withPlaces}
 use Rattle.layout.proofs.LaysLaws.{word-of, row-length, lays-set, lays-move}
 use Rattle.layout.proofs.Fields as F
-use Rattle.layout.proofs.RowLaws.{clear, small-row, sums-zeros, folds}
+use Rattle.lta_spec.proofs.RowLaws.{zeros-sums}
+use Rattle.layout.proofs.RowLaws.{clear, small-row, folds}
 
 -- what the tests of a dump have shown
 pub record DumpFacts (c : Cell Row) : Type 0 where
@@ -114,7 +115,7 @@ module _ (n bins : ℕ) {l : List ℕ} {u : Unit} (s : Lays (unitL n bins) l u) 
     joined =
         ap (λ r. sums r (u .cell .opened .members))
         (held-clear n (u .cell) d (row-length s (F.heldRow n bins)) o)
-        ∙ sums-zeros (rowWords n) (u .cell .opened .members) (row-length s (F.openRow n bins))
+        ∙ zeros-sums (rowWords n) (u .cell .opened .members) (row-length s (F.openRow n bins))
 
     pub lays-hold-open : Lays (unitL n bins) (heldWords l n x t) (withPlaces u (E.holdOpen n x t (u .cell)))
     unfolding E.holdOpen

@@ -2,23 +2,18 @@
 use mathlib.Core.Path.{refl, sym, _∙_}
 use mathlib.Core.List.{List}
 use Prim.Native.Nat.{ℕ, suc, _+_, _*_, _<_, _≤_}
-use native.Mathlib.Nat.{mul-le-mul, mul-le-mul-right, suc-mul}
+use native.Mathlib.Nat.{mul-le-mul-right, suc-mul}
 use native.Mathlib.Omega.{arith}
 use lib.ListN.{length}
 use Rattle.lta_spec.specs.Size.{rowWords, binWords, cellWords}
 use Rattle.lta_spec.specs.Place.{lossCount}
 use Rattle.lta_spec.specs.Memory.{unitL}
+use Rattle.lta_spec.proofs.ShapeLaws.{cell-small}
 use Rattle.lta_spec.proofs.MemoryLaws.{UnitOk, unit-law, unit-width}
 use Rattle.layout.specs.Lays.{Lays}
 use Rattle.layout.specs.Offsets.{lossRowAt, stateAt, fixedWords, Stands}
 use Rattle.layout.specs.Cells.{Fits, unitOf}
 use Rattle.layout.proofs.LaysLaws.{lays}
-
--- a cell is small
-pub cell-small : (n bins : ℕ) → n ≤ 128 → bins ≤ 1000 → cellWords n bins ≤ 600000
-cell-small n bins a b =
-    let h : 2 * bins * binWords n ≤ 2000 * 261 = mul-le-mul {n₂ = 2000} {m₂ = 261} (omega arith) (omega arith) in
-    omega arith
 
 -- where a loss and a bin stand
 pub loss-stands : (n i : ℕ) → n ≤ 128 → i < lossCount

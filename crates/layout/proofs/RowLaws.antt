@@ -1,16 +1,16 @@
 -- A row that passes its test: its words are small, so a move of one to another fits, and without ticks it is clear.
-use mathlib.Core.Path.{_≡_, refl, sym, ap, _∙_}
+use mathlib.Core.Path.{_≡_, refl, sym, _∙_}
 use mathlib.Core.Logic.{_⊎_, ⊎-elim, inl, inr}
 use mathlib.Core.Bool.{Bool, true, false}
 use mathlib.Core.List.{List, [], _∷_}
 use Prim.Native.Nat.{ℕ, zero, suc, _+_, _*_, _<_, _≤_}
-use native.Mathlib.Nat.{le-of-suc-le-suc, not-suc-le-zero, zero-add}
+use native.Mathlib.Nat.{le-of-suc-le-suc, not-suc-le-zero}
 use native.Mathlib.Omega.{arith}
 use lib.Dec.{ltb}
 use lib.ListN.{length, getD, drop, length-drop, length-replicate, getD-replicate, List·getD-eq-default}
 use lib.Seq.{getD-drop, ext-getD}
 use borrow.Author.Tests.{leb-true, ltb-true, ltb-false}
-use Rattle.lta_spec.specs.Words.{sums, zeros, every}
+use Rattle.lta_spec.specs.Words.{zeros, every}
 use Rattle.lta_spec.specs.Row.{ticksOf, sumOk, rowOk}
 use Rattle.lta_spec.specs.Shape.{runLimit}
 use Rattle.lta_spec.specs.Layout.{Layout, block}
@@ -78,13 +78,6 @@ pub small-zeros : (n : ℕ) → Small (zeros n)
 small-zeros n i =
     ⊎-elim (λ k. omega (arith, getD-replicate {A = ℕ} n i 0 0 k))
     (λ k. omega (arith, List·getD-eq-default (zeros n) 0 {n = i} (omega (arith, length-zeros n)))) (lt-or-le i n)
-
--- a row added to a clear one
-pub sums-zeros : (n : ℕ) (r : List ℕ) → length r ≡ n → sums (zeros n) r ≡ r
-sums-zeros zero [] e = refl
-sums-zeros zero (x ∷ r) e = absurd (omega arith)
-sums-zeros (suc n) [] e = absurd (omega arith)
-sums-zeros (suc n) (x ∷ r) e = rw zero-add (ap (λ y. x ∷ y) (sums-zeros n r (omega arith)))
 
 -- a small row may be moved to another
 pub folds : {A : Type 0} {a : Layout A} {l : List ℕ} {x : A} (s : Lays a l x) {n from to : ℕ} {v w : A → List ℕ}

@@ -36,7 +36,7 @@ use verdict::tick_verdict;
 use words::clear;
 ghost use mathlib.Core.Path.{_≡_};
 ghost use mathlib.Core.Bool.{true};
-ghost use Prim.Native.Nat.{_*_, _≤_, _<_};
+ghost use Prim.Native.Nat.{_*_, _<_};
 ghost use lib.ListN.{length};
 ghost use Rattle.lta_spec.specs.Words.{splice, zeros};
 ghost use Rattle.lta_spec.specs.Answer.{neededAs, startedAs, tickedAs, movedAs, writtenAs, ledgerAs, forecastAs};

@@ -1,103 +1,56 @@
-// The script program of document 01: reads records from standard input, makes the call of each on a run of one cell,
-// and prints a line for each.
-mod print;
-mod record;
-
-use lta::dump;
-use lta::emit;
-use lta::integrate;
-use lta::setup;
-use lta::tick;
-use lta_spec::Moved;
-use lta_spec::Shape;
+// The script program of document 01: reads records from standard input and takes each in turn.
+use libc::STDIN_FILENO;
 use lta_spec::Started;
-use lta_spec::Ticked;
-use lta_spec::Written;
-use print::answer;
-use print::end;
-use print::frame;
-use print::refusal;
-use record::Next;
-use record::Record;
-use record::read_next;
+use script::parse::Next;
+use script::parse::next_in;
+use script::parse::size;
+use script::parse::two;
+use script::shape;
+use script::turn;
+ghost use Prim.Native.Nat.{_≤_};
+ghost use lib.ListN.{length};
 
-// C = 1, N = 2, B = 2, M = 1, S = 0, R = 4, Z = 0.
-fn shape() -> Shape {
-    Shape {
-        cells: 1,
-        lags: 2,
-        bins: 2,
-        blocks: 1,
-        start: 0,
-        rate: 4,
-        second: 0,
+// Reads bytes a to e; answers how many came.
+fn fill(b: &mut [u8], a: usize, e: usize) -> usize
+    ensures { λ r. ⌜ r ≤ length (now (b .entry)) ⌝ }
+{
+    if a > e {
+        return 0;
     }
+    if e > b.len() {
+        return 0;
+    }
+    io::read_full(STDIN_FILENO, &mut b[a..e])
 }
 
-// TK: an X byte and a Y byte.
-fn run_tick(mem: &mut [u64], x: u8, y: u8) {
-    match tick(shape(), mem, &[x, y]) {
-        Ticked::Refused(r) => refusal(b"TK", r),
-        Ticked::HeldOff(cells) => answer(b"TK", cells),
-    }
+// The first n bytes.
+fn head(b: &[u8], n: usize) -> &[u8] {
+    if n <= b.len() { &b[0..n] } else { b }
 }
 
-// The line of a dump or an integration.
-fn moved(letters: &[u8], m: Moved) {
-    match m {
-        Moved::Refused(r) => refusal(letters, r),
-        Moved::Kept => answer(letters, 0),
-        Moved::Lost(l) => answer(letters, print::loss(l)),
-        Moved::Idle => answer(letters, 7),
+// The next record of standard input: its letters, then as many bytes as they want.
+fn read_next() -> Next {
+    let mut b = [0u8; 8];
+    let got = fill(&mut b, 0, 2);
+    if got < 2 {
+        return next_in(head(&b, got));
     }
-}
-
-// EM: the words of the frame.
-fn run_emit(mem: &mut [u64], cell: u64, bank: u64, bin: u64) {
-    let mut out = [0u8; 50];
-    match emit(shape(), mem, cell, bank, bin, &mut out) {
-        Written::Refused(r) => refusal(b"EM", r),
-        Written::Length(_) => frame(&out),
-    }
-}
-
-fn run(mem: &mut [u64], r: Record) {
-    match r {
-        Record::Tick(x, y) => run_tick(mem, x, y),
-        Record::Dump(d) => {
-            let m = dump(shape(), mem, d.cell, d.command, d.bank, d.phase, d.block);
-            moved(b"DP", m)
-        }
-        Record::Integrate(cell) => {
-            let m = integrate(shape(), mem, cell);
-            moved(b"IN", m)
-        }
-        Record::Emit(e) => run_emit(mem, e.cell, e.bank, e.bin),
-    }
-}
-
-// The next record and its line; answers whether to go on.
-fn turn(mem: &mut [u64]) -> bool {
-    let n = read_next();
-    let Next::Record(r) = n else {
-        end(n);
-        return false;
-    };
-    run(mem, r);
-    true
+    let e = size(two(b[0], b[1]));
+    let more = fill(&mut b, 2, e);
+    next_in(head(&b, 2 + more))
 }
 
 // Every record. A proved loop has to end: no input has so many.
 fn run_all(mem: &mut [u64]) {
     let mut turns = u64::MAX;
-    while turns > 0 && turn(&mut *mem) {
+    while turns > 0 && turn(&mut *mem, read_next()) {
         turns -= 1;
     }
 }
 
 fn main() {
     let mut mem = [0u64; 103];
-    let Started::Fresh = setup(shape(), &mut mem) else {
+    let Started::Fresh = lta::setup(shape(), &mut mem) else {
         return;
     };
     run_all(&mut mem);

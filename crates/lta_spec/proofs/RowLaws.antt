@@ -18,6 +18,7 @@ use Rattle.lta_spec.specs.Row.{ticksOf, edgeOf, centreOf, emptyRow, bias
 use Rattle.lta_spec.specs.Row.{entryWord, fromWord, entryOk}
 use Rattle.lta_spec.specs.Machine.{Ticks}
 use Rattle.lta_spec.specs.Numbers.{upTo}
+use Rattle.lta_spec.proofs.TestLaws.{and-both}
 use Rattle.lta_spec.proofs.TickLaws.{Sampled, byte-sampled, inPhase-bound, quadrature-bound, entry-is}
 
 -- sums of rows
@@ -188,11 +189,6 @@ pub record Limited (t : ℕ) (row : List ℕ) : Type 0 where
 
 both : {a b : Bool} → a ≡ true → b ≡ true → a && b ≡ true
 both p q = rw (p, q)
-
-and-both : (a b : Bool) → a && b ≡ true → (a ≡ true) × (b ≡ true)
-and-both true b e = (refl, e)
-and-both false true e = (e, refl)
-and-both false false e = (e, e)
 
 every-sums : (s t w : ℕ) → s + t ≡ w → (a b : List ℕ) → every (sumOk s) a ≡ true → every (sumOk t) b ≡ true
     → every (sumOk w) (sums a b) ≡ true

@@ -10,6 +10,7 @@ use lib.IntN.{ℤ, pos, negsuc, negℤ, natAbs, _+ℤ_, _*ℤ_, pos-*ℤ-pos, po
 use lib.ListN.{getD}
 use borrow.Author.Tests.{ltb-true, ltb-false, eqb-true, eqb-false, ne-eqb, le-ltb}
 use Rattle.lta_spec.specs.Shape.{peak}
+use Rattle.lta_spec.specs.Tick.{xDelay, yDelay}
 use Rattle.lta_spec.specs.Tick.{Entry, nibble, fromByte, product, weight, turn, inPhase, quadrature}
 use Rattle.lta_spec.specs.Row.{biased, entryWord, fromWord}
 
@@ -127,3 +128,10 @@ entry-is b =
       twice-eight (b % 16) (omega arith),
       invalid-same (b % 16) (omega arith),
     )
+
+-- "so the relative delay is k - N/2 and lag N/2 is the centre": X at lag k is k - N/2 ticks older than Y
+pub relative-delay : (n k : ℕ) → k ≤ n → xDelay k + n / 2 ≡ yDelay n k + k
+relative-delay n k h = omega arith
+
+pub centre-delay : (n : ℕ) → xDelay (n / 2) ≡ yDelay n (n / 2)
+centre-delay n = omega arith

@@ -3,7 +3,7 @@ use mathlib.Core.Path.{_≡_, refl, sym, ap, _∙_}
 use mathlib.Core.Logic.{_⊎_, ⊎-elim}
 use mathlib.Core.List.{List, [], _∷_, _++_}
 use Prim.Native.Nat.{ℕ, zero, suc, _+_, _-_, _<_, _≤_}
-use native.Mathlib.Nat.{zero-add, suc-add, add-assoc, not-suc-le-zero, le-of-suc-le-suc}
+use native.Mathlib.Nat.{zero-add, suc-add, not-suc-le-zero, le-of-suc-le-suc}
 use native.Mathlib.Omega.{arith}
 use lib.ListN.{length, getD, set, take, drop, length-take, length-drop, length-replicate}
 use lib.Seq.{drop-drop, getD-take, getD-drop, take-suc, ext-getD}
@@ -155,17 +155,6 @@ part-splice-apart l at vs b n apart h =
     ∙ ⊎-elim (λ w. getD-splice-before l at vs (b + i) (omega arith))
     (λ w. getD-splice-after l at vs (b + i) (omega arith)) apart
     ∙ sym (getD-part l b n i k′))
-
--- a part of a part
-pub part-part : (l : List ℕ) (at m b n : ℕ) → at + m ≤ length l → b + n ≤ m
-    → part b n (part at m l) ≡ part (at + b) n l
-part-part l at m b n h k =
-    let lm : length (part at m l) ≡ m = length-part l at m h in
-    let e : length (part b n (part at m l)) ≡ n = length-part (part at m l) b n (omega arith) in
-    ext-getD 0 (part b n (part at m l)) (part (at + b) n l) (e ∙ sym (length-part l (at + b) n (omega arith)))
-    (λ i j. let j′ : i < n = omega arith in
-    getD-part (part at m l) b n i j′ ∙ getD-part l at m (b + i) (omega arith)
-    ∙ ap (λ (q : ℕ). getD l q 0) (sym (add-assoc at b i)) ∙ sym (getD-part l (at + b) n i j′))
 
 -- what the loan of a part, `&mut s[at..at + n]`, gives the callee, and what it leaves of the slice
 pub lent : (l : List ℕ) (at n : ℕ) → take (at + n - at) (drop at l) ≡ part at n l

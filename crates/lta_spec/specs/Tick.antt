@@ -21,10 +21,6 @@ nibble n = cond (ltb n 8) (pos n) (negsuc (15 - n))
 unfoldable pub fromByte : ℕ → Entry
 fromByte b = record { valid = not (eqb (b % 16) 8); sample = nibble (b % 16); phase = b / 16 % 16 }
 
--- the byte that stands for every sample before tick 0
-abbrev pub invalidByte : ℕ
-invalidByte = 8
-
 -- "Before tick 0 everything is invalid"
 abbrev pub silence : Entry
 silence = record { valid = false; sample = negsuc 7; phase = 0 }
@@ -34,7 +30,8 @@ abbrev pub ago : List Entry → (d : ℕ) → Entry
 ago es d = getD es d silence
 
 -- "Lag k multiplies X from (k+1) div 2 ticks ago by Y from N/2 - (k div 2) ticks ago", N the lags of the whole
--- correlator: the memo's X and Y shift registers, both shifted (4.2)
+-- correlator: the memo's X and Y shift registers, both shifted (4.2); `relative-delay` in proofs/TickLaws.antt: "so the
+-- relative delay is k - N/2"
 abbrev pub xDelay : (k : ℕ) → ℕ
 xDelay k = (k + 1) / 2
 

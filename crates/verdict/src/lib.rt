@@ -230,6 +230,7 @@ fn forecast_tests(s: Shape, mem: &[u64], c: u64) -> Verdict
     Verdict::Accepted
 }
 
+// A tick: 1, 2, then 3, 4, 11.
 pub fn tick_verdict(s: Shape, mem: &[u64], samples: &[u8]) -> Verdict
     ensures { λ r. ⌜ r ≡ verdict s (now (mem .entry)) (tick (now (samples .entry))) ⌝ }
 {
@@ -239,6 +240,7 @@ pub fn tick_verdict(s: Shape, mem: &[u64], samples: &[u8]) -> Verdict
     }
 }
 
+// A dump: 1, 2, then 5, 6, 7, 11.
 pub fn dump_verdict(
     s: Shape,
     mem: &[u64],
@@ -256,6 +258,7 @@ pub fn dump_verdict(
     }
 }
 
+// An integration: 1, 2, then 5, 11, 8.
 pub fn integrate_verdict(s: Shape, mem: &[u64], c: u64) -> Verdict
     ensures { λ r. ⌜ r ≡ verdict s (now (mem .entry)) (integrate c) ⌝ }
 {
@@ -265,6 +268,7 @@ pub fn integrate_verdict(s: Shape, mem: &[u64], c: u64) -> Verdict
     }
 }
 
+// An emission: 1, 2, then 5, 7, 11, 9, 10.
 pub fn emit_verdict(s: Shape, mem: &[u64], c: u64, bank: u64, bin: u64, out: &[u8]) -> Verdict
     ensures { λ r. ⌜ r ≡ verdict s (now (mem .entry)) (emit c bank bin (now (out .entry))) ⌝ }
 {
@@ -274,6 +278,7 @@ pub fn emit_verdict(s: Shape, mem: &[u64], c: u64, bank: u64, bin: u64, out: &[u
     }
 }
 
+// A reading: 1, 2, then 5, 12, 11.
 pub fn reading_verdict(s: Shape, mem: &[u64], c: u64, lag: u64, loss: u64) -> Verdict
     ensures { λ r. ⌜ r ≡ verdict s (now (mem .entry)) (reading c lag loss) ⌝ }
 {
@@ -283,6 +288,7 @@ pub fn reading_verdict(s: Shape, mem: &[u64], c: u64, lag: u64, loss: u64) -> Ve
     }
 }
 
+// A forecast: 1, 2, then 5, 11.
 pub fn forecast_verdict(s: Shape, mem: &[u64], c: u64) -> Verdict
     ensures { λ r. ⌜ r ≡ forecastVerdict s c (now (mem .entry)) ⌝ }
 {

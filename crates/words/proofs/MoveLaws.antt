@@ -1,28 +1,12 @@
 -- Laws of clearing and of `folded`: what a turn of the loop adds, and the parts after a move, for the callers.
 use mathlib.Core.Path.{_≡_, refl, sym, ap, _∙_}
-use mathlib.Core.Logic.{_⊎_, ⊎-elim, inl, inr}
+use mathlib.Core.Logic.{_⊎_, ⊎-elim}
 use mathlib.Core.List.{List, [], _∷_, _++_}
 use Prim.Native.Nat.{ℕ, zero, suc, _+_, _<_, _≤_}
 use native.Mathlib.Omega.{arith}
 use lib.ListN.{length, getD, set}
 use Rattle.lta_spec.specs.Words.{part, splice, sums, zeros}
-use Rattle.lta_spec.proofs.WordLaws.{
-  splice-nil,
-  length-splice,
-  getD-splice-before,
-  getD-splice-after,
-  set-splice-next,
-  set-splice-before,
-  set-splice-after,
-  length-sums,
-  sums-next,
-  length-zeros,
-  length-part,
-  part-next,
-  part-zero,
-  part-splice-same,
-  part-splice-apart,
-}
+use Rattle.lta_spec.proofs.WordLaws.{splice-nil, length-splice, getD-splice-before, getD-splice-after, set-splice-next, set-splice-before, set-splice-after, length-sums, sums-next, length-zeros, length-part, part-next, part-zero}
 use Rattle.words.specs.Moves.{folded}
 
 zeros-next : (n : ℕ) → zeros n ++ 0 ∷ [] ≡ zeros (suc n)
@@ -62,36 +46,6 @@ module _ (l : List ℕ) (from to n : ℕ) (from-in : from + n ≤ length l) (to-
       ⊎-elim (λ w. getD-splice-before m from (zeros n) k w)
       (λ w. getD-splice-after m from (zeros n) k (omega arith)) a
       ∙ ⊎-elim (λ w. getD-splice-before l to s k w) (λ w. getD-splice-after l to s k (omega arith)) b
-
-  pub part-folded-from : part from n (folded l from to n) ≡ zeros n
-  unfolding folded
-  part-folded-from =
-      let s : List ℕ = sums (part to n l) (part from n l) in
-      let e : length (splice l to s) ≡ length l = length-splice l to s in
-      let z : length (zeros n) ≡ n = length-zeros n in
-      rw z at (part-splice-same (splice l to s) from (zeros n) (omega arith))
-
-  -- a part that is neither
-  pub part-folded-other : (b m : ℕ) → (b + m ≤ from) ⊎ (from + n ≤ b) → (b + m ≤ to) ⊎ (to + n ≤ b)
-      → b + m ≤ length l → part b m (folded l from to n) ≡ part b m l
-  unfolding folded
-  part-folded-other b m f t h =
-      let s : List ℕ = sums (part to n l) (part from n l) in
-      let e : length (zeros n) ≡ n = length-zeros n in
-      let g : length s ≡ n = length-more in
-      part-splice-apart (splice l to s) from (zeros n) b m (⊎-elim inl (λ w. inr (omega arith)) f)
-      (simp length-splice h)
-      ∙ part-splice-apart l to s b m (⊎-elim inl (λ w. inr (omega arith)) t) h
-
-  pub part-folded-to : (from + n ≤ to) ⊎ (to + n ≤ from)
-      → part to n (folded l from to n) ≡ sums (part to n l) (part from n l)
-  unfolding folded
-  part-folded-to apart =
-      let e : length (zeros n) ≡ n = length-zeros n in
-      let s : List ℕ = sums (part to n l) (part from n l) in
-      part-splice-apart (splice l to s) from (zeros n) to n (⊎-elim (λ w. inr (omega arith)) inl apart)
-      (simp length-splice to-in)
-      ∙ rw length-more at (part-splice-same l to s (rw length-more to-in))
 
 -- a turn of the loop: one more sum, and one more word cleared
 pub folded-next : (l : List ℕ) (from to n : ℕ) → from + n < length l → to + n < length l

@@ -1,5 +1,5 @@
 -- `lta_run::run_all` ends: the measure is the number of turns that are left. The run's words stay as many.
-use mathlib.Core.Path.{_≡_, refl, _∙_}
+use mathlib.Core.Path.{_≡_, refl}
 use native.Mathlib.Omega.{arith}
 use lib.ListN.{length}
 use borrow.Author.Needs.{needs}
@@ -14,6 +14,9 @@ abbrev μ-loop : tie.MeasureT-loop
 
 loop-holds : tie.Need-loop-holds Inv-loop μ-loop
 loop-holds c = refl
+
+read-next-requires : tie.Need-read-next-requires Inv-loop μ-loop
+read-next-requires c κs = tt
 
 turn-requires : tie.Need-turn-requires Inv-loop μ-loop
 turn-requires c κs = tt
@@ -46,6 +49,7 @@ run-all-spec =
     Inv-loop
     μ-loop
     loop-holds
+    read-next-requires
     turn-requires
     sub-turns
     loop-less

@@ -1,10 +1,9 @@
--- `lta_run::print::frame` ends: the invariant is that k is not above 12.
-use mathlib.Core.Path.{refl}
+-- The loop ends: the invariant is that k is not above 12.
 use Prim.Native.Nat.{_-_, _≤_}
 use native.Mathlib.Omega.{arith}
 use borrow.Author.Needs.{needs}
-use Rattle.lta_run.proofs.print.frame.Statement.{statement}
-use Rattle.lta_run.proofs.print.frame.Tie as tie
+use Rattle.script.proofs.print.frame.Statement.{statement}
+use Rattle.script.proofs.print.frame.Tie as tie
 
 abbrev Inv-loop : tie.InvT-loop
 Inv-loop frame k₀ t6 k = k ≤ 12

@@ -1,9 +1,9 @@
--- `lta_run::print::number` meets its contract: in each arm the refusal is the arm's.
+-- In each arm the refusal is the arm's.
 use mathlib.Core.Path.{sym, ap}
 use Rattle.lta_spec.specs.Refusals.{refusalNumber}
 use borrow.Author.Needs.{needs}
-use Rattle.lta_run.proofs.print.number.Statement.{statement}
-use Rattle.lta_run.proofs.print.number.Tie as tie
+use Rattle.answer.proofs.refusal_number.Statement.{statement}
+use Rattle.answer.proofs.refusal_number.Tie as tie
 
 enum-told : tie.Need-enum-told
 enum-told c = search needs
@@ -107,8 +107,8 @@ returns-16 c = ap refusalNumber (sym (c .enum-told16 .given .1))
 returns-17 : tie.Need-returns-17
 returns-17 c = ap refusalNumber (sym (c .enum-told17 .given .1))
 
-pub number-spec : {M : Type 1} → statement M
-number-spec =
+pub refusal-number-spec : {M : Type 1} → statement M
+refusal-number-spec =
     tie.close
     (tie.spec
     enum-told

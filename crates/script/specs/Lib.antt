@@ -1,0 +1,2 @@
+-- The records of a script.
+pub mod Records
