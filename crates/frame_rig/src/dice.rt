@@ -10,7 +10,7 @@ fn next(x: u64) -> u64 {
 }
 
 // Number i of the draws of a seed.
-fn draw(seed: u64, i: u64) -> u64 {
+pub fn draw(seed: u64, i: u64) -> u64 {
     let a = next(wrapping_add_u64(seed, 88172645463325252));
     let b = next(wrapping_add_u64(a, i));
     let c = next(wrapping_add_u64(b, 0x9e37_79b9_7f4a_7c15));

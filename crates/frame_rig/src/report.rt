@@ -2,8 +2,8 @@
 use libc::STDOUT_FILENO;
 use std::num::wrapping_add_u64;
 
-// Rows that agree, and in steps of 2^20 those in which a refusal is due, and in steps of 2^40 those that differ. No
-// group has 2^20 rows.
+// Rows that agree, and in steps of 2^22 those in which a refusal is due, and in steps of 2^44 those that differ. No
+// group has 2^22 rows.
 pub type Tally = u64;
 
 // One of two numbers.
@@ -13,8 +13,8 @@ pub fn pick(so: bool, yes: u64, no: u64) -> u64 {
 
 // One row more: did it agree, and was a refusal due?
 pub fn row(t: Tally, agrees: bool, refusal: bool) -> Tally {
-    let all = wrapping_add_u64(t, pick(agrees, 1, 0x100_0000_0000));
-    wrapping_add_u64(all, pick(refusal, 0x10_0000, 0))
+    let all = wrapping_add_u64(t, pick(agrees, 1, 0x1000_0000_0000));
+    wrapping_add_u64(all, pick(refusal, 0x40_0000, 0))
 }
 
 // A row in which no refusal is due.
@@ -23,24 +23,29 @@ pub fn note(t: Tally, agrees: bool) -> Tally {
 }
 
 // A text and a number.
-fn say(text: &[u8], x: u64) {
+pub fn say(text: &[u8], x: u64) {
     io::write_all(STDOUT_FILENO, text);
     io::print_decimal(STDOUT_FILENO, x);
 }
 
+// How many rows differ.
+pub fn failures(t: Tally) -> u64 {
+    t / 0x1000_0000_0000
+}
+
 // The numbers of a group's line: "12 of 12 rows agree, 7 refusals".
-fn counts(t: Tally) {
-    let good = t % 0x10_0000;
+pub fn counts(t: Tally) {
+    let good = t % 0x40_0000;
     say(b" ", good);
-    say(b" of ", good + t / 0x100_0000_0000);
-    say(b" rows agree, ", t / 0x10_0000 % 0x10_0000);
+    say(b" of ", good + failures(t) % 0x10_0000);
+    say(b" rows agree, ", t / 0x40_0000 % 0x40_0000);
     io::write_all(STDOUT_FILENO, b" refusals\n");
 }
 
-// Eight bytes of a text, from byte 8 k on.
-fn part(text: &[u8], k: u64) {
-    let a = (8 * (k % 16)) as usize;
-    let e = a + 8;
+// So many bytes of a text, from byte `at` on.
+pub fn part(text: &[u8], at: u64, width: u64) {
+    let a = (at % 256) as usize;
+    let e = a + (width % 64) as usize;
     if e <= text.len() {
         io::write_all(STDOUT_FILENO, &text[a..e]);
     }
@@ -51,9 +56,9 @@ fn part(text: &[u8], k: u64) {
 pub fn line(failed: u64, n: u64, names: &[u8], k: u64, t: Tally) -> u64 {
     say(b"N = ", n);
     io::write_all(STDOUT_FILENO, b", ");
-    part(names, k);
+    part(names, 8 * (k % 16), 8);
     counts(t);
-    wrapping_add_u64(failed, t / 0x100_0000_0000)
+    wrapping_add_u64(failed, failures(t))
 }
 
 // The last line: "all agree", or "FAILED" and how many rows.
