@@ -306,7 +306,7 @@ fn same(n: usize, at: usize, words: &[u64], row: &Row) {
 
 fn main() {
     let rounds = std::env::args().nth(1).map_or(200, |a| a.parse().unwrap());
-    for n in [2, 16, 128] {
+    for n in [2, 16, 32, 128] {
         let bins = 1;
         let (depth, row, words) = (n / 2 + 1, row_words(n), cell_words(n, bins));
         let mut bytes = Bytes(0x9e37_79b9_7f4a_7c15);

@@ -1,93 +1,103 @@
--- Registers of n lags that were gathered and decoded in blank arrays: the lag loop may read them, and its terms are
--- the tick's.
+-- Registers of n lags that were gathered and decoded: the lag loop may read them, and its terms are the tick's.
 use mathlib.Core.Path.{_≡_, sym, ap, _∙_}
 use mathlib.Core.List.{List}
 use Prim.Native.Nat.{ℕ, _+_, _*_, _-_, _/_, _%_, _≤_}
 use native.Mathlib.Omega.{arith}
 use lib.ListN.{length, getD}
-use Rattle.lta_spec.specs.Words.{part, zeros}
+use Rattle.lta_spec.specs.Words.{part}
 use Rattle.lta_spec.specs.Size.{depth}
 use Rattle.lta_spec.specs.Row.{lagRow}
-use Rattle.lta_spec.proofs.WordLaws.{length-zeros, getD-part}
+use Rattle.lta_spec.proofs.WordLaws.{length-splice, getD-part}
 use Rattle.signal.specs.Signal.{nibbleDigit, digit, phase}
-use Rattle.signal.proofs.SignalLaws.{digits}
-use Rattle.lag.specs.Lag.{filled, wordAt, wordBack, digitOf, phaseOf, Decoded, lagTerm, lagTerms, entriesAt}
+use Rattle.signal.proofs.SignalLaws.{digits, digit-small}
+use Rattle.lag.specs.Lag.{
+  listed,
+  filled,
+  wordAt,
+  wordBack,
+  packed,
+  packedOf,
+  Registers,
+  Decoded,
+  lagTerm,
+  lagTerms,
+  entriesAt,
+}
 use Rattle.lag.proofs.Loops.{getD-filled}
 use Rattle.lag.proofs.RowLaws.{stored, lagTerms-are}
 
-abbrev pub blank : List ℕ
-blank = zeros 65
-
 -- a digit and a phase lie in the low byte of a word
-low-digit : (w : ℕ) → digit (w % 256) ≡ digit w
-low-digit w = let e : w % 256 % 16 ≡ w % 16 = omega arith in ap nibbleDigit e
+packed-low : (w : ℕ) → packed (w % 65536) ≡ packed w
+packed-low w =
+    let d : digit (w % 65536) ≡ digit w = let e : w % 65536 % 16 ≡ w % 16 = omega arith in ap nibbleDigit e in
+    let p : phase (w % 65536) ≡ phase w = omega arith in
+    rw (d, p)
 
-low-phase : (w : ℕ) → phase (w % 256) ≡ phase w
-low-phase w = omega arith
+-- and come apart again
+digit-of-packed : (w : ℕ) → packed w % 16 ≡ digit w
+digit-of-packed w = omega (arith, digit-small w)
 
-module _ (l : List ℕ) (x y n : ℕ) (even : n ≡ 2 * (n / 2)) (most : n ≤ 128) where
-  filled-is : (f : ℕ → ℕ) {d : List ℕ} → d ≡ filled blank f (depth n) → (i : ℕ) → i ≤ n / 2 → getD d i 0 ≡ f i
-  filled-is f e i h =
-      let room : length blank ≡ 65 = length-zeros 65 in
-      rw e (getD-filled blank f (depth n) i (omega arith) (omega arith))
+phase-of-packed : (w : ℕ) → packed w / 16 ≡ phase w
+phase-of-packed w = omega (arith, digit-small w)
 
-  module _ {xs ys xd xp yd yp : List ℕ}
-      (xs-is : xs ≡ filled blank (wordAt l x) (depth n)) (ys-is : ys ≡ filled blank (wordBack l y (depth n)) (depth n))
-      (xd-is : xd ≡ filled blank (digitOf xs) (depth n)) (xp-is : xp ≡ filled blank (phaseOf xs) (depth n))
-      (yd-is : yd ≡ filled blank (digitOf ys) (depth n)) (yp-is : yp ≡ filled blank (phaseOf ys) (depth n)) where
-    -- entry i of X, newest first, and entry j of Y, oldest first
-    at-x : (i : ℕ) → ℕ
-    at-x i = getD (part x (depth n) l) i 0
+module _ (l : List ℕ) (x y n : ℕ) where
+  -- gathered in us and vs, and decoded in their places
+  pub registers-are : (us₀ vs₀ : List ℕ) {us vs xs ys : List ℕ} → depth n ≤ length us₀ → depth n ≤ length vs₀
+      → us ≡ filled us₀ (wordAt l x) (depth n) → vs ≡ filled vs₀ (wordBack l y (depth n)) (depth n)
+      → xs ≡ filled us (packedOf us) (depth n) → ys ≡ filled vs (packedOf vs) (depth n)
+      → Registers l x y n xs ys
+  registers-are us₀ vs₀ {us} {vs} {xs} {ys} hu hv u-is v-is xs-is ys-is =
+      let lu : length us ≡ length us₀ = ap length u-is ∙ length-splice us₀ 0 (listed (wordAt l x) (depth n)) in
+      let lv : length vs ≡ length vs₀ =
+      ap length v-is ∙ length-splice vs₀ 0 (listed (wordBack l y (depth n)) (depth n)) in
+      record {
+        x-is = λ i h.
+            let g : getD us i 0 ≡ wordAt l x i = rw u-is (getD-filled us₀ (wordAt l x) (depth n) i (omega arith) hu) in
+            let w : getD (part x (depth n) l) i 0 ≡ getD l (x + i) 0 = getD-part l x (depth n) i (omega arith) in
+            let e : getD xs i 0 ≡ packedOf us i =
+            rw xs-is (getD-filled us (packedOf us) (depth n) i (omega arith) (omega arith)) in
+            e ∙ ap packed g ∙ packed-low (getD l (x + i) 0) ∙ ap packed (sym w);
+        y-is = λ j h.
+            let q : depth n - 1 - j ≡ n / 2 - j = omega arith in
+            let b : getD vs j 0 ≡ wordBack l y (depth n) j =
+            rw v-is (getD-filled vs₀ (wordBack l y (depth n)) (depth n) j (omega arith) hv) in
+            let g : getD vs j 0 ≡ wordAt l y (n / 2 - j) = b ∙ ap (wordAt l y) q in
+            let w : getD (part y (depth n) l) (n / 2 - j) 0 ≡ getD l (y + (n / 2 - j)) 0 =
+            getD-part l y (depth n) (n / 2 - j) (omega arith) in
+            let e : getD ys j 0 ≡ packedOf vs j =
+            rw ys-is (getD-filled vs (packedOf vs) (depth n) j (omega arith) (omega arith)) in
+            e ∙ ap packed g ∙ packed-low (getD l (y + (n / 2 - j)) 0) ∙ ap packed (sym w);
+      }
 
-    at-y : (j : ℕ) → ℕ
-    at-y j = getD (part y (depth n) l) (n / 2 - j) 0
-
-    module _ (f : ℕ → ℕ) (low : (w : ℕ) → f (w % 256) ≡ f w) {d : List ℕ} where
-      x-entry : d ≡ filled blank (λ j. f (getD xs j 0)) (depth n) → (i : ℕ) → i ≤ n / 2 → getD d i 0 ≡ f (at-x i)
-      unfolding at-x
-      x-entry e i h =
-          filled-is (λ j. f (getD xs j 0)) e i h ∙ ap f (filled-is (wordAt l x) xs-is i h) ∙ low (getD l (x + i) 0)
-          ∙ ap f (sym (getD-part l x (depth n) i (omega arith)))
-
-      y-entry : d ≡ filled blank (λ j. f (getD ys j 0)) (depth n) → (j : ℕ) → j ≤ n / 2 → getD d j 0 ≡ f (at-y j)
-      unfolding at-y
-      y-entry e j h =
-          let q : depth n - 1 - j ≡ n / 2 - j = omega arith in
-          filled-is (λ j. f (getD ys j 0)) e j h ∙ ap f (filled-is (wordBack l y (depth n)) ys-is j h)
-          ∙ low (getD l (y + (depth n - 1 - j)) 0)
-          ∙ rw q (ap f (sym (getD-part l y (depth n) (n / 2 - j) (omega arith))))
-
-    pub decoded : Decoded xd xp yd yp (n / 2)
-    unfolding at-x at-y
-    decoded =
+  module _ (xs ys : List ℕ) (r : Registers l x y n xs ys) where
+    pub decoded : n ≤ 128 → depth n ≤ length xs → depth n ≤ length ys → Decoded xs ys (n / 2)
+    decoded most hx hy =
         record {
           few = omega arith;
           meets = λ i j hi hj.
+              let u : ℕ = getD (part x (depth n) l) i 0 in
+              let v : ℕ = getD (part y (depth n) l) (n / 2 - j) 0 in
               record {
                 x-in = omega arith;
                 y-in = omega arith;
                 digits =
-                    rw (x-entry digit low-digit xd-is i hi, y-entry digit low-digit yd-is j hj)
-                    (digits (at-x i) (at-y j));
+                    rw (r .x-is i hi, r .y-is j hj) (rw (digit-of-packed u, digit-of-packed v) (digits u v));
                 phases =
-                    rw (x-entry phase low-phase xp-is i hi, y-entry phase low-phase yp-is j hj)
-                    record { first = omega arith; second = omega arith; third = omega arith };
+                    rw (r .x-is i hi, r .y-is j hj) (rw (phase-of-packed u, phase-of-packed v)
+                    record { first = omega arith; second = omega arith; third = omega arith });
               };
         }
 
-    pub terms-are : lagTerms xd xp yd yp (n / 2) ≡ lagRow n (entriesAt n x l) (entriesAt n y l) n 0
-    unfolding at-x at-y
-    terms-are =
+    pub terms-are : n ≡ 2 * (n / 2) → lagTerms xs ys (n / 2) ≡ lagRow n (entriesAt n x l) (entriesAt n y l) n 0
+    terms-are even =
         let us : List ℕ = part x (depth n) l in
         let vs : List ℕ = part y (depth n) l in
         let same : (i j turn : ℕ) → i ≤ n / 2 → j ≤ n / 2
-        → lagTerm xd xp yd yp i j turn ≡ stored n us vs i (n / 2 - j) turn =
+        → lagTerm xs ys i j turn ≡ stored n us vs i (n / 2 - j) turn =
         λ i j turn hi hj.
-        rw (
-          x-entry digit low-digit xd-is i hi,
-          x-entry phase low-phase xp-is i hi,
-          y-entry digit low-digit yd-is j hj,
-          y-entry phase low-phase yp-is j hj,
-        ) in
-        lagTerms-are n us vs xd xp yd yp (n / 2) even same (n / 2) (omega arith)
+        let u : ℕ = getD us i 0 in
+        let v : ℕ = getD vs (n / 2 - j) 0 in
+        rw (r .x-is i hi, r .y-is j hj)
+        (rw (digit-of-packed u, digit-of-packed v, phase-of-packed u, phase-of-packed v)) in
+        lagTerms-are n us vs xs ys (n / 2) even same (n / 2) (omega arith)
         ∙ ap (λ (m : ℕ). lagRow n (entriesAt n x l) (entriesAt n y l) m 0) (sym even)

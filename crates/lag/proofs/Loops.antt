@@ -6,9 +6,10 @@ use Prim.Native.Nat.{ℕ, zero, suc, _+_, _<_, _≤_}
 use native.Mathlib.Nat.{zero-add, add-zero, eq-or-lt-of-le, le-of-suc-le-suc, not-suc-le-zero}
 use native.Mathlib.Omega.{arith}
 use lib.ListN.{length, getD, set, take, drop, length-append, List·getD-append}
-use lib.Seq.{getD-take, take-suc, take-add, drop-drop, length-take-le, getD-append-seam}
+use lib.Seq.{take-suc, take-take, take-add, drop-cons, drop-drop, length-take-le, getD-append-seam}
 use Rattle.lta_spec.specs.Words.{part, splice, sums}
 use Rattle.lta_spec.proofs.WordLaws.{
+  getD-splice-before,
   getD-splice-after,
   getD-splice-in,
   set-splice-next,
@@ -16,7 +17,6 @@ use Rattle.lta_spec.proofs.WordLaws.{
   length-sums,
   sums-next,
   length-part,
-  getD-part,
   part-next,
   part-zero,
   splice-nil,
@@ -67,28 +67,38 @@ pair-next l vs k a b e =
     rw (zero-add, f) at (set-splice-next l 0 (vs ++ a ∷ []) b) in
     rw (first, second, append-assoc)
 
--- a register that takes w in front and loses its last entry, and what a loop going up has written of it
-abbrev pub moved : (l : List ℕ) (at depth w : ℕ) → List ℕ
-moved l at depth w = take depth (w ∷ part at depth l)
+-- a word before those that were spliced in
+set-front : (l : List ℕ) (at : ℕ) (vs : List ℕ) (v : ℕ) → set (splice l (suc at) vs) at v ≡ splice l at (v ∷ vs)
+set-front [] at vs v = refl
+set-front (x ∷ l) zero vs v = refl
+set-front (x ∷ l) (suc at) vs v = ap (λ (r : List ℕ). x ∷ r) (set-front l at vs v)
 
-module _ (l : List ℕ) (at depth w : ℕ) (inside : at + depth ≤ length l) where
-  pub length-moved : length (moved l at depth w) ≡ depth
-  length-moved = length-take-le depth (w ∷ part at depth l) (omega (arith, length-part l at depth inside))
+-- a register that moves from its end: one entry more, and then the new one in front
+pub moved-next : (l : List ℕ) (k m : ℕ) → k < length l
+    → let s = splice l (suc (suc k)) (part (suc k) m l) in
+    set s (suc k) (getD s k 0) ≡ splice l (suc k) (part k (suc m) l)
+unfolding part
+moved-next l k m h =
+    let vs : List ℕ = part (suc k) m l in
+    let e : getD (splice l (suc (suc k)) vs) k 0 ≡ getD l k 0 =
+    getD-splice-before l (suc (suc k)) vs k (omega arith) in
+    rw e (set-front l (suc k) vs (getD l k 0)
+    ∙ ap (λ (r : List ℕ). splice l (suc k) (take (suc m) r)) (sym (drop-cons l k 0 h)))
 
-  pub getD-moved : (j : ℕ) → suc j < depth → getD (moved l at depth w) (suc j) 0 ≡ getD l (at + j) 0
-  getD-moved j h = getD-take depth (w ∷ part at depth l) (suc j) 0 h ∙ getD-part l at depth j (omega arith)
-
-module _ (l : List ℕ) (at : ℕ) (vs : List ℕ) (j : ℕ) (h : j < length vs) where
-  pub written-next : set (splice l at (take j vs)) (at + j) (getD vs j 0) ≡ splice l at (take (suc j) vs)
-  written-next =
-      let e : length (take j vs) ≡ j = length-take-le j vs (omega arith) in
-      rw e at (set-splice-next l at (take j vs) (getD vs j 0))
-      ∙ ap (λ (r : List ℕ). splice l at r) (sym (take-suc vs j 0 h))
+pub moved-whole : (l : List ℕ) (at m w : ℕ)
+    → set (splice l (suc at) (part at m l)) at w ≡ splice l at (take (suc m) (w ∷ part at (suc m) l))
+unfolding part
+moved-whole l at m w =
+    set-front l at (part at m l) w
+    ∙ ap (λ (r : List ℕ). splice l at (w ∷ r)) (sym (take-take m (suc m) (drop at l) (omega arith)))
 
 -- what a loop going up reads ahead of what it has written
 pub getD-ahead : (l : List ℕ) (at : ℕ) (vs : List ℕ) (j : ℕ) → length vs ≡ j
     → getD (splice l at vs) (at + j) 0 ≡ getD l (at + j) 0
 getD-ahead l at vs j e = getD-splice-after l at vs (at + j) (omega arith)
+
+pub filled-ahead : (d : List ℕ) (f : ℕ → ℕ) (m : ℕ) → getD (filled d f m) m 0 ≡ getD d m 0
+filled-ahead d f m = rw zero-add at (getD-ahead d 0 (listed f m) m (length-listed f m))
 
 pub length-added : (l t : List ℕ) (at i : ℕ) → at + i ≤ length l → i ≤ length t
     → length (sums (part at i l) (take i t)) ≡ i

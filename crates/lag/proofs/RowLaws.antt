@@ -14,9 +14,9 @@ use Rattle.signal.specs.Signal.{digit, phase, contribution}
 use Rattle.signal.proofs.SignalLaws.{digits, contribution-small, in-phase-is, quadrature-is}
 use Rattle.lag.specs.Lag.{lagTerm, lagPair, lagTerms, entriesAt}
 
-pub length-lagTerms : (xd xp yd yp : List ℕ) (h : ℕ) → length (lagTerms xd xp yd yp h) ≡ 4 * h
-length-lagTerms xd xp yd yp zero = refl
-length-lagTerms xd xp yd yp (suc h) = simp length-append (omega (arith, length-lagTerms xd xp yd yp h))
+pub length-lagTerms : (xs ys : List ℕ) (h : ℕ) → length (lagTerms xs ys h) ≡ 4 * h
+length-lagTerms xs ys zero = refl
+length-lagTerms xs ys (suc h) = simp length-append (omega (arith, length-lagTerms xs ys h))
 
 -- an entry of a stored register; what lies past its end reads as silence, as a cleared word does
 pub ago-is : (ws : List ℕ) (d : ℕ) → ago (map fromWord ws) d ≡ fromWord (getD ws d 0)
@@ -79,15 +79,15 @@ module _ (n : ℕ) (us vs : List ℕ) where
   lagRow-small (suc m) k (suc (suc i)) = lagRow-small m (suc k) i
 
   -- decoded registers of N = 2h lags: X newest first, Y oldest first
-  module _ (xd xp yd yp : List ℕ) (h : ℕ) (even : n ≡ 2 * h)
-      (same : (i j turn : ℕ) → i ≤ h → j ≤ h → lagTerm xd xp yd yp i j turn ≡ stored i (h - j) turn) where
+  module _ (gs hs : List ℕ) (h : ℕ) (even : n ≡ 2 * h)
+      (same : (i j turn : ℕ) → i ≤ h → j ≤ h → lagTerm gs hs i j turn ≡ stored i (h - j) turn) where
     lagPair-is : (i j k : ℕ) → i ≤ h → j ≤ h → xDelay k ≡ i → yDelay n k ≡ h - j
-        → rowPair n (map fromWord us) (map fromWord vs) k ≡ lagPair xd xp yd yp i j
+        → rowPair n (map fromWord us) (map fromWord vs) k ≡ lagPair gs hs i j
     lagPair-is i j k hi hj ex ey =
         rowPair-is k ∙ rw (ex, ey) (rw (same i j 0 hi hj, same i j 12 hi hj))
 
     pub lagTerms-are : (j : ℕ) → j ≤ h
-        → lagTerms xd xp yd yp j ≡ lagRow n (map fromWord us) (map fromWord vs) (2 * j) 0
+        → lagTerms gs hs j ≡ lagRow n (map fromWord us) (map fromWord vs) (2 * j) 0
     lagTerms-are zero hj = refl
     lagTerms-are (suc j) hj =
         let k = 2 * j in

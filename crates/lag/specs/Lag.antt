@@ -4,10 +4,10 @@ use mathlib.Core.Bool.{cond}
 use mathlib.Core.List.{List, [], _∷_, _++_, map}
 use Prim.Native.Nat.{ℕ, zero, suc, _+_, _*_, _-_, _/_, _%_, _<_, _≤_, _^_}
 use lib.ListN.{length, getD}
-use Rattle.lta_spec.specs.Words.{part, splice}
+use Rattle.lta_spec.specs.Words.{part, splice, sums}
 use Rattle.lta_spec.specs.Size.{depth, rowWords}
 use Rattle.lta_spec.specs.Tick.{Entry, validAt, edgeLag, centreLag}
-use Rattle.lta_spec.specs.Row.{fromWord}
+use Rattle.lta_spec.specs.Row.{fromWord, tickRow}
 use Rattle.signal.specs.Signal.{digit, phase, Digits, Phases, contribution}
 
 -- f 0 to f (m - 1), as a loop going up writes them
@@ -21,34 +21,41 @@ filled d f m = splice d 0 (listed f m)
 
 -- the entry of j ticks ago of the register at `at`, as a small word
 abbrev pub wordAt : (l : List ℕ) (at j : ℕ) → ℕ
-wordAt l at j = getD l (at + j) 0 % 256
+wordAt l at j = getD l (at + j) 0 % 65536
 
 -- entry j of a register of m entries, oldest first
 abbrev pub wordBack : (l : List ℕ) (at m j : ℕ) → ℕ
 wordBack l at m j = wordAt l at (m - 1 - j)
 
-abbrev pub digitOf : (ws : List ℕ) (j : ℕ) → ℕ
-digitOf ws j = digit (getD ws j 0)
+-- a decoded entry in one small word: its digit and 16 × its phase
+abbrev pub packed : (w : ℕ) → ℕ
+packed w = digit w + 16 * phase w
 
-abbrev pub phaseOf : (ws : List ℕ) (j : ℕ) → ℕ
-phaseOf ws j = phase (getD ws j 0)
+abbrev pub packedOf : (ws : List ℕ) (j : ℕ) → ℕ
+packedOf ws j = packed (getD ws j 0)
 
--- entries that may meet in a lag: X[i] and Y[j], digits and phases within their limits
-pub record Meets (xd xp yd yp : List ℕ) (i j : ℕ) : Type 0 where
-  pub x-in : i < 65
-  pub y-in : j < 65
-  pub digits : Digits (getD xd i 0) (getD yd j 0)
-  pub phases : Phases (getD xp i 0) (getD yp j 0) 12
+-- the registers of n lags at x and y, decoded: X newest first, Y oldest first
+pub record Registers (l : List ℕ) (x y n : ℕ) (xs ys : List ℕ) : Type 0 where
+  pub x-is : (i : ℕ) → i ≤ n / 2 → getD xs i 0 ≡ packed (getD (part x (depth n) l) i 0)
+  pub y-is : (j : ℕ) → j ≤ n / 2 → getD ys j 0 ≡ packed (getD (part y (depth n) l) (n / 2 - j) 0)
+
+-- decoded entries that may meet in a lag: X[i] and Y[j], digits and phases within their limits
+pub record Meets (xs ys : List ℕ) (i j : ℕ) : Type 0 where
+  pub x-in : i < length xs
+  pub y-in : j < length ys
+  pub digits : Digits (getD xs i 0 % 16) (getD ys j 0 % 16)
+  pub phases : Phases (getD xs i 0 / 16) (getD ys j 0 / 16) 12
 
 -- entries 0 to h of X and of Y may meet
-pub record Decoded (xd xp yd yp : List ℕ) (h : ℕ) : Type 0 where
+pub record Decoded (xs ys : List ℕ) (h : ℕ) : Type 0 where
   pub few : h ≤ 64
-  pub meets : (i j : ℕ) → i ≤ h → j ≤ h → Meets xd xp yd yp i j
+  pub meets : (i j : ℕ) → i ≤ h → j ≤ h → Meets xs ys i j
 
 -- what the lags add: lag 2j multiplies X[j] and Y[j], lag 2j + 1 X[j + 1] and Y[j], where Y stands oldest first
-module _ (xd xp yd yp : List ℕ) where
+module _ (xs ys : List ℕ) where
   abbrev pub lagTerm : (i j turn : ℕ) → ℕ
-  lagTerm i j turn = contribution (getD xd i 0) (getD xp i 0) (getD yd j 0) (getD yp j 0) turn
+  lagTerm i j turn =
+      contribution (getD xs i 0 % 16) (getD xs i 0 / 16) (getD ys j 0 % 16) (getD ys j 0 / 16) turn
 
   abbrev pub lagPair : (i j : ℕ) → List ℕ
   lagPair i j = lagTerm i j 0 ∷ lagTerm i j 12 ∷ []
@@ -74,3 +81,8 @@ pub record Ready (l : List ℕ) (x y to n : ℕ) : Type 0 where
   pub y-in : y + depth n ≤ length l
   pub to-in : to + rowWords n ≤ length l
   pub room : (i : ℕ) → i < rowWords n → getD l (to + i) 0 + 196 < 2 ^ 64
+
+-- the words after the tick whose registers stand at x and y is added to the row at `to`
+abbrev pub ticked : (l : List ℕ) (x y to n : ℕ) → List ℕ
+ticked l x y to n =
+    splice l to (sums (part to (rowWords n) l) (tickRow n (entriesAt n x l) (entriesAt n y l)))

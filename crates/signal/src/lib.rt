@@ -38,15 +38,15 @@ pub fn product(a: u16, b: u16) -> u16
     a * b + 98 - 7 * a - 7 * b
 }
 
-// The weight at the difference of two phases turned by `turn`, 0 for I and 12 for Q, with a bias of 2. Comparisons and
-// no table: they run on several lags at a time.
+// The weight at the difference of two phases turned by `turn`, 0 for I and 12 for Q, with a bias of 2. Arithmetic
+// on the distance from 8 and no table: it runs on several lags at a time.
 pub fn weight(xp: u16, yp: u16, turn: u16) -> u16
     requires { ⌜ Phases xp yp turn ⌝ }
     ensures { λ r. ⌜ r ≡ weight2 (turned xp yp turn) ⌝ }
 {
     let d = (xp + 16 - yp + turn) % 16;
-    let e = if d < 8 { d } else { 16 - d };
-    (e <= 1) as u16 + (e <= 3) as u16 + (e <= 4) as u16 + (e <= 6) as u16
+    let f = if d < 8 { 8 - d } else { d - 8 };
+    (9 * f + 4) / 16
 }
 
 // What a product adds at a weight, with a bias of 98.

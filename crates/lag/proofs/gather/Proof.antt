@@ -1,8 +1,9 @@
 -- The loop's invariant: the first j words of each array are written.
-use mathlib.Core.Path.{_≡_, sym}
+use mathlib.Core.Path.{_≡_, refl, sym}
 use Prim.Native.Nat.{_-_, _≤_}
 use native.Mathlib.Omega.{arith}
 use native.Mathlib.Numerals.{add-one}
+use lib.ListN.{length, length-set}
 use denote.Ref.{now}
 use Rattle.lta_spec.proofs.WordLaws.{splice-nil}
 use Rattle.lag.specs.Lag.{filled, wordAt, wordBack}
@@ -13,12 +14,13 @@ use Rattle.lag.proofs.gather.Tie as tie
 abbrev Inv-loop : tie.InvT-loop
 Inv-loop s x y m xs₀ ys₀ j₀ xs ys j =
     (j ≤ m) × (xs ≡ filled xs₀ (wordAt s x) j) × (ys ≡ filled ys₀ (wordBack s y m) j)
+    × (length xs ≡ length xs₀) × (length ys ≡ length ys₀)
 
 abbrev μ-loop : tie.MeasureT-loop
 μ-loop s x y m xs₀ ys₀ j₀ xs ys j = m - j
 
 loop-holds : tie.Need-loop-holds Inv-loop μ-loop
-loop-holds c = (omega arith, sym (splice-nil _ _), sym (splice-nil _ _))
+loop-holds c = (omega arith, sym (splice-nil _ _), sym (splice-nil _ _), refl, refl)
 
 add-v : tie.Need-add-v Inv-loop μ-loop
 add-v c = omega arith
@@ -50,8 +52,8 @@ cast-xs c = omega arith
 mul-xs : tie.Need-mul-xs Inv-loop μ-loop
 mul-xs c = omega arith
 
-element-write-xs : tie.Need-element-write-xs Inv-loop μ-loop
-element-write-xs c = omega arith
+slice-write-xs : tie.Need-slice-write-xs Inv-loop μ-loop
+slice-write-xs c = omega arith
 
 cast-ys : tie.Need-cast-ys Inv-loop μ-loop
 cast-ys c = omega arith
@@ -59,8 +61,8 @@ cast-ys c = omega arith
 mul-ys : tie.Need-mul-ys Inv-loop μ-loop
 mul-ys c = omega arith
 
-element-write-ys : tie.Need-element-write-ys Inv-loop μ-loop
-element-write-ys c = omega arith
+slice-write-ys : tie.Need-slice-write-ys Inv-loop μ-loop
+slice-write-ys c = omega arith
 
 add-j : tie.Need-add-j Inv-loop μ-loop
 add-j c = omega arith
@@ -78,7 +80,15 @@ loop-again c =
       omega arith,
       rw (v .1, add-one j) (filled-next (now (a .xs)) (wordAt l (a .x)) j),
       rw (v .2, add-one j) (filled-next (now (a .ys)) (wordBack l (a .y) (a .m)) j),
+      simp length-set (v .3),
+      simp length-set (v .4),
     )
+
+same-length : tie.Need-same-length Inv-loop μ-loop
+same-length c = c .before .loop .inv .3
+
+same-length-2 : tie.Need-same-length-2 Inv-loop μ-loop
+same-length-2 c = c .before .loop .inv .4
 
 returns : tie.Need-returns Inv-loop μ-loop
 returns c =
@@ -103,11 +113,13 @@ gather-spec =
     shared-slice-read-w
     cast-xs
     mul-xs
-    element-write-xs
+    slice-write-xs
     cast-ys
     mul-ys
-    element-write-ys
+    slice-write-ys
     add-j
     loop-less
     loop-again
+    same-length
+    same-length-2
     returns)

@@ -6,26 +6,26 @@ use Rattle.lag.proofs.put_lag.Tie as tie
 mul-a : tie.Need-mul-a
 mul-a c = search needs
 
-element-copy-out-a : tie.Need-element-copy-out-a
-element-copy-out-a c = search needs
+shared-slice-read-a : tie.Need-shared-slice-read-a
+shared-slice-read-a c = search needs
 
 mul-p : tie.Need-mul-p
 mul-p c = search needs
 
-element-copy-out-p : tie.Need-element-copy-out-p
-element-copy-out-p c = search needs
+shared-slice-read-p : tie.Need-shared-slice-read-p
+shared-slice-read-p c = search needs
 
 mul-b : tie.Need-mul-b
 mul-b c = search needs
 
-element-copy-out-b : tie.Need-element-copy-out-b
-element-copy-out-b c = search needs
+shared-slice-read-b : tie.Need-shared-slice-read-b
+shared-slice-read-b c = search needs
 
 mul-q : tie.Need-mul-q
 mul-q c = search needs
 
-element-copy-out-q : tie.Need-element-copy-out-q
-element-copy-out-q c = search needs
+shared-slice-read-q : tie.Need-shared-slice-read-q
+shared-slice-read-q c = search needs
 
 lag-adds-requires : tie.Need-lag-adds-requires
 lag-adds-requires c κs = search needs
@@ -33,8 +33,8 @@ lag-adds-requires c κs = search needs
 mul-terms : tie.Need-mul-terms
 mul-terms c = search needs
 
-element-write-terms : tie.Need-element-write-terms
-element-write-terms c = search needs
+slice-write-terms : tie.Need-slice-write-terms
+slice-write-terms c = search needs
 
 lag-adds-requires-2 : tie.Need-lag-adds-requires-2
 lag-adds-requires-2 c κs = search needs
@@ -45,8 +45,11 @@ add-terms c = search needs
 mul-terms-2 : tie.Need-mul-terms-2
 mul-terms-2 c = search needs
 
-element-write-terms-2 : tie.Need-element-write-terms-2
-element-write-terms-2 c = search needs
+slice-write-terms-2 : tie.Need-slice-write-terms-2
+slice-write-terms-2 c = search needs
+
+same-length : tie.Need-same-length
+same-length c = search needs
 
 returns : tie.Need-returns
 returns c = rw (c .before .lag-adds .ensures, c .lag-adds2 .ensures)
@@ -56,18 +59,19 @@ put-lag-spec =
     tie.close
     (tie.spec
     mul-a
-    element-copy-out-a
+    shared-slice-read-a
     mul-p
-    element-copy-out-p
+    shared-slice-read-p
     mul-b
-    element-copy-out-b
+    shared-slice-read-b
     mul-q
-    element-copy-out-q
+    shared-slice-read-q
     lag-adds-requires
     mul-terms
-    element-write-terms
+    slice-write-terms
     lag-adds-requires-2
     add-terms
     mul-terms-2
-    element-write-terms-2
+    slice-write-terms-2
+    same-length
     returns)

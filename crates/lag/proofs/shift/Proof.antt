@@ -1,46 +1,45 @@
--- The loop's invariant: the first j words of the register are those of the moved one, and the next is carried.
+-- The loop's invariant: the words behind the first j + 1 of the register have moved.
 use mathlib.Core.Path.{_≡_, refl, sym, ap, _∙_}
-use mathlib.Core.List.{List, _∷_}
-use Prim.Native.Nat.{ℕ, _-_, _≤_, _<_}
+use mathlib.Core.List.{_∷_}
+use Prim.Native.Nat.{ℕ, suc, _+_, _-_, _<_}
+use native.Mathlib.Nat.{add-zero}
 use native.Mathlib.Omega.{arith}
-use native.Mathlib.Numerals.{add-one}
-use lib.ListN.{length, getD, take, length-set}
-use lib.Seq.{getD-take, take-all, length-take-le}
+use lib.ListN.{length, take, length-set}
 use denote.Ref.{now}
 use Rattle.lta_spec.specs.Words.{part, splice}
 use Rattle.lta_spec.specs.Row.{entryWord}
-use Rattle.lta_spec.proofs.WordLaws.{splice-nil}
-use Rattle.lag.proofs.Loops.{moved, length-moved, getD-moved, written-next, getD-ahead}
+use Rattle.lta_spec.proofs.WordLaws.{splice-nil, part-zero}
+use Rattle.lag.proofs.Loops.{moved-next, moved-whole}
 use Rattle.lag.proofs.shift.Statement.{statement}
 use Rattle.lag.proofs.shift.Tie as tie
 
 abbrev Inv-loop : tie.InvT-loop
-Inv-loop s₀ at depth byte carry₀ j₀ s carry j =
-    (j ≤ depth) × (s ≡ splice s₀ at (take j (moved s₀ at depth (entryWord byte))))
-    × (j < depth → carry ≡ getD (moved s₀ at depth (entryWord byte)) j 0) × (length s ≡ length s₀)
+Inv-loop s₀ at depth byte j₀ s j =
+    (j < depth) × (s ≡ splice s₀ (suc (at + j)) (part (at + j) (depth - suc j) s₀)) × (length s ≡ length s₀)
 
 abbrev μ-loop : tie.MeasureT-loop
-μ-loop s₀ at depth byte carry₀ j₀ s carry j = depth - j
+μ-loop s₀ at depth byte j₀ s j = j
 
-entry-requires : tie.Need-entry-requires Inv-loop μ-loop
-entry-requires c κs = tt
+sub-j : tie.Need-sub-j Inv-loop μ-loop
+sub-j c = omega arith
 
 loop-holds : tie.Need-loop-holds Inv-loop μ-loop
 loop-holds c =
-    let a = c .before .before .args in
-    let w = entryWord (a .byte) in
-    let first : 0 < a .depth → c .entry .result ≡ getD (moved (now (a .s)) (a .at) (a .depth) w) 0 0 =
-    λ h. c .entry .ensures ∙ sym (getD-take (a .depth) (w ∷ part (a .at) (a .depth) (now (a .s))) 0 0 h) in
-    (omega arith, sym (splice-nil _ _), first, refl)
+    let d = c .before .args .depth in
+    let none : d - suc (d - 1) ≡ 0 = omega arith in
+    (omega arith, rw (none, part-zero) (sym (splice-nil _ _)), refl)
 
 add-k : tie.Need-add-k Inv-loop μ-loop
 add-k c = omega arith
 
-mul-old : tie.Need-mul-old Inv-loop μ-loop
-mul-old c = omega arith
+sub-newer : tie.Need-sub-newer Inv-loop μ-loop
+sub-newer c = omega arith
 
-slice-read-old : tie.Need-slice-read-old Inv-loop μ-loop
-slice-read-old c = omega arith
+mul-newer : tie.Need-mul-newer Inv-loop μ-loop
+mul-newer c = omega arith
+
+slice-read-newer : tie.Need-slice-read-newer Inv-loop μ-loop
+slice-read-newer c = omega arith
 
 mul-s : tie.Need-mul-s Inv-loop μ-loop
 mul-s c = omega arith
@@ -48,8 +47,8 @@ mul-s c = omega arith
 slice-write-s : tie.Need-slice-write-s Inv-loop μ-loop
 slice-write-s c = omega arith
 
-add-j : tie.Need-add-j Inv-loop μ-loop
-add-j c = omega arith
+sub-j-2 : tie.Need-sub-j-2 Inv-loop μ-loop
+sub-j-2 c = omega arith
 
 loop-less : tie.Need-loop-less Inv-loop μ-loop
 loop-less c = omega arith
@@ -57,32 +56,44 @@ loop-less c = omega arith
 loop-again : tie.Need-loop-again Inv-loop μ-loop
 loop-again c =
     let t = c .before .before in
-    let a = t .before .before .before .args in
+    let a = t .before .before .args in
     let v = t .loop .inv in
-    let l = now (a .s) in
     let j = t .loop .j in
-    let w = entryWord (a .byte) in
-    let vs : List ℕ = moved l (a .at) (a .depth) w in
-    let lv : length vs ≡ a .depth = length-moved l (a .at) (a .depth) w (omega arith) in
-    let ahead = getD-ahead l (a .at) (take j vs) j (length-take-le j vs (omega arith)) in (
+    let k : ℕ = a .at + (j - 1) in
+    let m : ℕ = a .depth - suc j in
+    let before : a .at + j - 1 ≡ k = omega arith in
+    let here : a .at + j ≡ suc k = omega arith in
+    let more : a .depth - suc (j - 1) ≡ suc m = omega arith in (
       omega arith,
-      rw (v .2 (omega arith), v .1, add-one j) (written-next l (a .at) vs j (omega arith)),
-      (λ h. rw (v .1, add-one j) (ahead ∙ sym (getD-moved l (a .at) (a .depth) w (omega arith) j (omega arith)))),
-      simp length-set (v .3),
+      rw (v .1, before, here, more) (moved-next (now (a .s)) k m (omega arith)),
+      simp length-set (v .2),
     )
 
+entry-requires : tie.Need-entry-requires Inv-loop μ-loop
+entry-requires c κs = tt
+
+mul-s-2 : tie.Need-mul-s-2 Inv-loop μ-loop
+mul-s-2 c = omega arith
+
+slice-write-s-2 : tie.Need-slice-write-s-2 Inv-loop μ-loop
+slice-write-s-2 c = omega arith
+
 same-length : tie.Need-same-length Inv-loop μ-loop
-same-length c = c .before .loop .inv .3
+same-length c = simp length-set (c .before .before .loop .inv .2)
 
 returns : tie.Need-returns Inv-loop μ-loop
 returns c =
-    let a = c .before .before .before .before .args in
+    let t = c .before .before in
+    let a = t .before .before .args in
     let l = now (a .s) in
     let w = entryWord (a .byte) in
-    let lv = length-moved l (a .at) (a .depth) w (omega arith) in
-    let j = c .before .loop .j in
-    c .before .loop .inv .1
-    ∙ ap (λ (r : List ℕ). splice l (a .at) r) (take-all j (moved l (a .at) (a .depth) w) (omega arith))
+    let m : ℕ = a .depth - 1 in
+    let past : t .loop .j ≡ 0 = omega arith in
+    let whole : a .depth ≡ suc m = omega arith in
+    let v : t .loop .s ≡ splice l (suc (a .at)) (part (a .at) m l) = t .loop .inv .1 ∙ rw (past, add-zero) in
+    rw (v, c .entry .ensures)
+    (moved-whole l (a .at) m w
+    ∙ ap (λ (q : ℕ). splice l (a .at) (take q (w ∷ part (a .at) q l))) (sym whole))
 
 pub shift-spec : {M : Type 1} → statement M
 shift-spec =
@@ -90,15 +101,19 @@ shift-spec =
     (tie.spec
     Inv-loop
     μ-loop
-    entry-requires
+    sub-j
     loop-holds
     add-k
-    mul-old
-    slice-read-old
+    sub-newer
+    mul-newer
+    slice-read-newer
     mul-s
     slice-write-s
-    add-j
+    sub-j-2
     loop-less
     loop-again
+    entry-requires
+    mul-s-2
+    slice-write-s-2
     same-length
     returns)

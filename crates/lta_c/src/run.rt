@@ -1,0 +1,171 @@
+// The calls on a run. Each contract is that of the call of crate lta that it makes, its answer packed.
+use crate::pack::pack;
+use crate::pack::refused;
+use crate::pack::shape_of;
+use answer::forecast;
+use answer::moved;
+use answer::needed;
+use answer::started;
+use answer::ticked;
+use answer::written;
+use lta_spec::Ledger;
+use lta_spec::Refusal;
+use lta_spec::Sums;
+ghost use mathlib.Core.Path.{_≡_};
+ghost use Prim.Native.Nat.{_≤_};
+ghost use lib.ListN.{length};
+ghost use Rattle.lta_spec.specs.Answer.Answer.{entry};
+ghost use Rattle.lta_spec.specs.Call.Call.{tick, dump, integrate, emit};
+ghost use Rattle.lta_spec.specs.Step.{sizeAnswer, setupAnswer, setupLeaves, step, ForecastOk};
+ghost use Rattle.lta_c.specs.Boundary.{shapeOf, packed, stored, sumsIn, countsIn, Packs, readingTold};
+
+// How many words of work memory a shape needs.
+#[no_mangle]
+pub extern "C" fn lta_words_needed(shape: &[u64]) -> u64
+    ensures { λ r. ⌜ r ≡ packed (sizeAnswer (shapeOf (now (shape .entry)))) ⌝ }
+{
+    pack(needed(lta::words_needed(shape_of(shape))))
+}
+
+// A fresh run in the work memory lent.
+#[no_mangle]
+pub extern "C" fn lta_setup(shape: &[u64], mem: &mut [u64]) -> u64
+    ensures answer { λ r. ⌜ r ≡ packed (setupAnswer (shapeOf (now (shape .entry))) (now (mem .entry))) ⌝ }
+    ensures leaves { λ _. ⌜ now (mem .exit) ≡ setupLeaves (shapeOf (now (shape .entry))) (now (mem .entry)) ⌝ }
+{
+    pack(started(lta::setup(shape_of(shape), &mut *mem)))
+}
+
+// A tick of every cell.
+#[no_mangle]
+pub extern "C" fn lta_tick(shape: &[u64], mem: &mut [u64], samples: &[u8]) -> u64
+    ensures answer { λ r. ⌜ r
+        ≡ packed ((step (shapeOf (now (shape .entry))) (tick (now (samples .entry))) (now (mem .entry))) .answer) ⌝ }
+    ensures leaves { λ _. ⌜ now (mem .exit)
+        ≡ (step (shapeOf (now (shape .entry))) (tick (now (samples .entry))) (now (mem .entry))) .mem ⌝ }
+{
+    pack(ticked(lta::tick(shape_of(shape), &mut *mem, samples)))
+}
+
+// A dump of one cell.
+#[no_mangle]
+pub extern "C" fn lta_dump(
+    shape: &[u64],
+    mem: &mut [u64],
+    cell: u64,
+    command: u64,
+    bank: u64,
+    phase: u64,
+    block: u64,
+) -> u64
+    ensures answer { λ r. ⌜ r
+        ≡ packed ((step (shapeOf (now (shape .entry))) (dump cell command bank phase block) (now (mem .entry)))
+        .answer) ⌝ }
+    ensures leaves { λ _. ⌜ now (mem .exit)
+        ≡ (step (shapeOf (now (shape .entry))) (dump cell command bank phase block) (now (mem .entry))) .mem ⌝ }
+{
+    pack(moved(lta::dump(
+        shape_of(shape),
+        &mut *mem,
+        cell,
+        command,
+        bank,
+        phase,
+        block,
+    )))
+}
+
+// An integration of one cell.
+#[no_mangle]
+pub extern "C" fn lta_integrate(shape: &[u64], mem: &mut [u64], cell: u64) -> u64
+    ensures answer { λ r. ⌜ r
+        ≡ packed ((step (shapeOf (now (shape .entry))) (integrate cell) (now (mem .entry))) .answer) ⌝ }
+    ensures leaves { λ _. ⌜ now (mem .exit)
+        ≡ (step (shapeOf (now (shape .entry))) (integrate cell) (now (mem .entry))) .mem ⌝ }
+{
+    pack(moved(lta::integrate(shape_of(shape), &mut *mem, cell)))
+}
+
+// An emission: the frame of a Ready bin into the front of out.
+#[no_mangle]
+pub extern "C" fn lta_emit(
+    shape: &[u64],
+    mem: &mut [u64],
+    cell: u64,
+    bank: u64,
+    bin: u64,
+    out: &mut [u8],
+) -> u64
+    ensures answer { λ r. ⌜ r
+        ≡ packed ((step (shapeOf (now (shape .entry))) (emit cell bank bin (now (out .entry))) (now (mem .entry)))
+        .answer) ⌝ }
+    ensures frame { λ _. ⌜ now (out .exit)
+        ≡ (step (shapeOf (now (shape .entry))) (emit cell bank bin (now (out .entry))) (now (mem .entry))) .out ⌝ }
+    ensures leaves { λ _. ⌜ now (mem .exit)
+        ≡ (step (shapeOf (now (shape .entry))) (emit cell bank bin (now (out .entry))) (now (mem .entry))) .mem ⌝ }
+{
+    pack(written(lta::emit(shape_of(shape), &mut *mem, cell, bank, bin, &mut *out)))
+}
+
+// The numbers of a loss into the slices lent.
+fn put_sums(s: Sums, sums: &mut [i64], counts: &mut [u64])
+    requires { ⌜ (2 ≤ length (now sums)) × (3 ≤ length (now counts)) ⌝ }
+    ensures { λ _. ⌜ (now (sums .exit) ≡ stored (now (sums .entry)) 0 (sumsIn (entry s)))
+        × (now (counts .exit) ≡ stored (now (counts .entry)) 0 (countsIn (entry s))) ⌝ }
+{
+    let i = s.i;
+    let q = s.q;
+    sums[0] = i;
+    sums[1] = q;
+    counts[0] = s.ticks;
+    counts[1] = s.edge;
+    counts[2] = s.centre;
+}
+
+// The numbers of one loss of one cell at one lag.
+#[no_mangle]
+pub extern "C" fn lta_reading(
+    shape: &[u64],
+    mem: &[u64],
+    cell: u64,
+    lag: u64,
+    loss: u64,
+    sums: &mut [i64],
+    counts: &mut [u64],
+) -> u64
+    ensures answer { λ r. ⌜ r
+        ≡ packed (readingTold (now (shape .entry)) (now (mem .entry)) cell lag loss (now (sums .entry))
+        (now (counts .entry))) ⌝ }
+    ensures sums { λ _. ⌜ now (sums .exit)
+        ≡ stored (now (sums .entry)) 0
+        (sumsIn
+        (readingTold (now (shape .entry)) (now (mem .entry)) cell lag loss (now (sums .entry))
+        (now (counts .entry)))) ⌝ }
+    ensures counts { λ _. ⌜ now (counts .exit)
+        ≡ stored (now (counts .entry)) 0
+        (countsIn
+        (readingTold (now (shape .entry)) (now (mem .entry)) cell lag loss (now (sums .entry))
+        (now (counts .entry)))) ⌝ }
+{
+    match lta::reading(shape_of(shape), mem, cell, lag, loss) {
+        Ledger::Refused(r) => refused(r),
+        Ledger::Entry(s) => {
+            if sums.len() < 2 {
+                return refused(Refusal::ShortBuffer);
+            }
+            if counts.len() < 3 {
+                return refused(Refusal::ShortBuffer);
+            }
+            put_sums(s, &mut *sums, &mut *counts);
+            0
+        }
+    }
+}
+
+// The ticks that a cell may still take before it is held off.
+#[no_mangle]
+pub extern "C" fn lta_forecast(shape: &[u64], mem: &[u64], cell: u64) -> u64
+    ensures { λ r. ⌜ Packs (ForecastOk (shapeOf (now (shape .entry))) cell (now (mem .entry))) r ⌝ }
+{
+    pack(forecast(lta::forecast(shape_of(shape), mem, cell)))
+}

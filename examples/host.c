@@ -1,0 +1,122 @@
+/* A run from C: two aerials see the same noise, one of them two ticks later, and a lag stands out.
+ *
+ *   cc -std=c99 -Wall -Wextra -Werror -Iinclude examples/host.c target/staticlib/liblta_c.a -o target/host
+ */
+#include <inttypes.h>
+#include <stdio.h>
+#include <stdlib.h>
+
+#include "lta.h"
+
+enum { CELLS = 2, LAGS = 16, BINS = 4, SHAPE = 7, DELAY = 2, DISCARDED = 100, TICKS = 4000, FRAME = 34 + 8 * LAGS };
+enum { LAST = 2, DISCARD = 4, ORDERED = 1, NOTHING_HELD = 8 };
+
+static const uint64_t shape[SHAPE] = {CELLS, LAGS, BINS, 1, 0, 1000, 1000};
+
+static uint64_t *mem;
+static size_t words;
+
+/* The answer of a call that must be accepted. */
+static uint32_t accepted(const char *what, uint64_t result) {
+    if (LTA_REFUSAL(result) != 0) {
+        fprintf(stderr, "%s was refused by %" PRIu32 "\n", what, LTA_REFUSAL(result));
+        exit(1);
+    }
+    return LTA_ANSWER(result);
+}
+
+static void expect(const char *what, int holds) {
+    if (!holds) {
+        fprintf(stderr, "unexpected: %s\n", what);
+        exit(1);
+    }
+}
+
+/* Noise of the sky, -7 to 7, as the low four bits of a sampler byte; phase 0. */
+static uint8_t noise(void) {
+    static uint32_t state = 2463534242u;
+    state ^= state << 13;
+    state ^= state >> 17;
+    state ^= state << 5;
+    return (uint8_t)(((int)(state % 15) - 7) & 15);
+}
+
+/* Both cells get the signal as X and the same, delayed, as Y; cell 1 has invalid Y samples for half of the time. */
+static void feed(int ticks) {
+    static uint8_t late[DELAY];
+    static int at;
+    for (int t = 0; t < ticks; t++) {
+        uint8_t x = noise();
+        uint8_t y = late[at % DELAY];
+        late[at % DELAY] = x;
+        at++;
+        uint8_t samples[2 * CELLS] = {x, y, x, at % 2 ? y : 8};
+        accepted("a tick", lta_tick(shape, SHAPE, mem, words, samples, sizeof samples));
+    }
+}
+
+static void show_lags(const uint8_t *frame, size_t length) {
+    int peak = 0;
+    double most = -1;
+    printf("  lag  delay      real      imag\n");
+    for (int k = 0; k < LAGS; k++) {
+        double pair[2];
+        uint64_t result = lta_normalised_lag(LAGS, frame, length, (uint64_t)k, pair, 2);
+        expect("data in the frame", accepted("a normalised lag", result) == 1);
+        printf("  %3d  %5d  %8.3f  %8.3f\n", k, k - LAGS / 2, pair[0], pair[1]);
+        if (pair[0] > most) {
+            most = pair[0];
+            peak = k;
+        }
+    }
+    /* Lag k has X from (k + 1) div 2 ticks ago and Y from N/2 - k div 2: relative delay k - N/2. */
+    printf("the greatest is at lag %d, relative delay %d\n", peak, peak - LAGS / 2);
+    expect("the lag of the delay", peak - LAGS / 2 == DELAY);
+}
+
+static void show_frame(uint64_t cell) {
+    uint8_t frame[FRAME];
+    uint32_t fields[10];
+    uint64_t result = lta_emit(shape, SHAPE, mem, words, cell, 0, 0, frame, sizeof frame);
+    uint32_t length = accepted("an emission", result);
+    expect("the length of a frame", length == FRAME);
+    accepted("reading the frame", lta_read_frame(LAGS, frame, length, fields, 10));
+    printf("cell %" PRIu32 ": %" PRIu32 " ticks, %" PRIu32 " valid at the centre, second %" PRIu32 "\n", fields[1],
+           fields[5], fields[6], fields[8]);
+    show_lags(frame, length);
+}
+
+static void show_loss(uint64_t cell) {
+    int64_t sums[2];
+    uint64_t counts[3];
+    uint64_t result = lta_reading(shape, SHAPE, mem, words, cell, LAGS / 2, ORDERED, sums, 2, counts, 3);
+    accepted("a reading", result);
+    printf("cell %" PRIu64 ", loss 1: %" PRIu64 " ticks, at the centre I %" PRId64 ", Q %" PRId64 "\n", cell,
+           counts[0], sums[0], sums[1]);
+    expect("the ticks of the loss", counts[0] == DISCARDED);
+}
+
+int main(void) {
+    words = accepted("the size", lta_words_needed(shape, SHAPE));
+    mem = malloc(words * sizeof *mem);
+    expect("memory", mem != NULL);
+    accepted("setup", lta_setup(shape, SHAPE, mem, words));
+    feed(DISCARDED);
+    for (uint64_t cell = 0; cell < CELLS; cell++) {
+        uint64_t result = lta_dump(shape, SHAPE, mem, words, cell, DISCARD, 0, 0, 0);
+        expect("what was open goes to loss 1", accepted("a dump", result) == ORDERED);
+    }
+    feed(TICKS);
+    for (uint64_t cell = 0; cell < CELLS; cell++) {
+        uint64_t result = lta_dump(shape, SHAPE, mem, words, cell, LAST, 0, 0, 0);
+        expect("what was open is held", accepted("a dump", result) == 0);
+        expect("it is kept", accepted("an integration", lta_integrate(shape, SHAPE, mem, words, cell)) == 0);
+        show_frame(cell);
+    }
+    show_loss(1);
+    uint32_t refusal = LTA_REFUSAL(lta_integrate(shape, SHAPE, mem, words, 0));
+    printf("an integration with nothing held is refused by %" PRIu32 "\n", refusal);
+    expect("refusal 8", refusal == NOTHING_HELD);
+    free(mem);
+    return 0;
+}

@@ -1,0 +1,154 @@
+//! Both engines get the same calls and must give the same answers, before anything is timed.
+use std::fmt::Debug;
+
+use lta::Shape;
+
+use crate::engine::{Engine, Peer, Proved};
+use crate::samples::Noise;
+
+const CALLS: u64 = 20_000;
+
+/// The numbers of a shape at their limits and past them.
+const LIMITS: [u64; 14] =
+    [0, 1, 3, 16, 17, 130, 255, 256, 257, 1001, 256_000_001, 2_147_483_647, 2_147_483_648, u64::MAX];
+
+/// Two engines side by side.
+struct Pair {
+    shape: Shape,
+    proved: Proved,
+    peer: Peer,
+    noise: Noise,
+    calls: u64,
+}
+
+fn same<T: PartialEq + Debug>(what: &str, proved: T, peer: T) {
+    assert_eq!(proved, peer, "{what}: the proved engine and the peer");
+}
+
+impl Pair {
+    fn new(shape: Shape, seed: u64) -> Pair {
+        Pair { shape, proved: Proved::new(shape), peer: Peer::new(shape), noise: Noise::new(seed), calls: 0 }
+    }
+
+    fn emit(&mut self, cell: u64, bank: u64, bin: u64) {
+        let length = self.shape.frame_length() - self.noise.below(8).saturating_sub(6) as usize;
+        let (mut one, mut other) = (vec![0; length], vec![0; length]);
+        let emitted = self.proved.emit(cell, bank, bin, &mut one);
+        same("emit", emitted, self.peer.emit(cell, bank, bin, &mut other));
+        same("frame", &one, &other);
+        if emitted.is_ok() {
+            self.frame(&mut one);
+        }
+    }
+
+    /// The frame calls, on a frame as it is or with one bit changed.
+    fn frame(&mut self, bytes: &mut [u8]) {
+        if self.noise.below(2) == 0 {
+            bytes[self.noise.below(bytes.len() as u64) as usize] ^= 1 << self.noise.below(8);
+        }
+        let lags = self.shape.lags;
+        let fields = Proved::read_frame(lags, bytes);
+        same("read", fields, Peer::read_frame(lags, bytes));
+        if let Ok(mut fields) = fields {
+            fields.bin += 999 * u32::from(self.noise.below(4) == 0);
+            let number = |part: &[u8]| i32::from_le_bytes([part[0], part[1], part[2], part[3]]);
+            let numbers: Vec<i32> = bytes[30..bytes.len() - 4].chunks_exact(4).map(number).collect();
+            let (mut one, mut other) = (vec![0; bytes.len()], vec![0; bytes.len()]);
+            let proved = Proved::write_frame(lags, &fields, &numbers, &mut one);
+            same("write", proved, Peer::write_frame(lags, &fields, &numbers, &mut other));
+            same("written", one, other);
+        }
+    }
+
+    fn call(&mut self) {
+        self.calls += 1;
+        let s = self.shape;
+        let noise = &mut self.noise;
+        let (kind, cell, bank) = (noise.below(16), noise.near(s.cells), noise.near(2));
+        let (command, phase) = (noise.below(9), noise.near((s.bins / s.blocks).min(2)));
+        let (block, lag, loss) = (s.start + noise.near(s.blocks), noise.near(s.lags), noise.near(7));
+        match kind {
+            0..=7 => {
+                let short = usize::from(noise.below(50) == 0);
+                let samples = noise.samples(2 * s.cells as usize - short);
+                same("tick", self.proved.tick(&samples), self.peer.tick(&samples));
+            }
+            8..=10 => {
+                let proved = self.proved.dump(cell, command, bank, phase, block);
+                same("dump", proved, self.peer.dump(cell, command, bank, phase, block));
+            }
+            11..=12 => same("integrate", self.proved.integrate(cell), self.peer.integrate(cell)),
+            13 => self.emit(cell, bank, phase * s.blocks),
+            14 => same("reading", self.proved.reading(cell, lag, loss), self.peer.reading(cell, lag, loss)),
+            _ => same("forecast", self.proved.forecast(cell), self.peer.forecast(cell)),
+        }
+    }
+
+    /// Some calls with a word of both forged; then all is as it was.
+    fn forged(&mut self, at: usize, word: u64) {
+        let before = (self.proved.clone(), self.peer.clone());
+        self.proved.forge(at, word);
+        self.peer.forge(at, word);
+        for _ in 0..8 {
+            self.call();
+        }
+        (self.proved, self.peer) = before;
+    }
+
+    /// Calls that name another shape, each number of it changed in turn.
+    fn reshape(&mut self) {
+        let right = self.shape;
+        for word in LIMITS {
+            let shapes = [
+                Shape { cells: word, ..right },
+                Shape { lags: word, ..right },
+                Shape { bins: word, ..right },
+                Shape { blocks: word, ..right },
+                Shape { start: word, ..right },
+                Shape { rate: word, ..right },
+                Shape { second: word, ..right },
+            ];
+            for shape in shapes {
+                self.proved.pretend(shape);
+                self.peer.pretend(shape);
+                for _ in 0..8 {
+                    self.call();
+                }
+            }
+        }
+        self.proved.pretend(right);
+        self.peer.pretend(right);
+    }
+
+    /// Time, flags, labels, stamps and counts mean the same in both; ticks do where they pass their limit.
+    fn forge(&mut self) {
+        let row = 3 + 2 * self.shape.lags as usize;
+        for word in [0, 1, 2, 3, 524_289, 2_147_483_648, 2_147_483_649, u64::MAX] {
+            for at in 0..7 {
+                self.forged(at, word);
+            }
+            for ticks_at in (0..8).map(|number| 7 + number * row) {
+                self.forged(ticks_at + 1, word);
+                self.forged(ticks_at + 2, word);
+                self.forged(ticks_at, word.max(2_147_483_649));
+            }
+        }
+    }
+}
+
+/// Lists of calls over several shapes, calls on forged memory and calls with other shapes; answers how many calls.
+pub fn check() -> u64 {
+    let shapes = [(1, 2, 1, 1), (2, 4, 3, 1), (3, 16, 8, 4), (4, 32, 5, 2), (16, 128, 2, 1)];
+    let mut calls = 0;
+    for (seed, (cells, lags, bins, blocks)) in (1..).zip(shapes) {
+        let shape = Shape { cells, lags, bins, blocks, start: 5, rate: 1000, second: 9 };
+        let mut pair = Pair::new(shape, seed);
+        for _ in 0..CALLS {
+            pair.call();
+        }
+        pair.forge();
+        pair.reshape();
+        calls += pair.calls;
+    }
+    calls
+}

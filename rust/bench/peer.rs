@@ -1,0 +1,185 @@
+//! The peer: the same contract in plain safe Rust. Work memory is one slice of words that the caller owns, sums are
+//! signed, and every call makes document 01's tests of memory before it writes.
+mod cell;
+pub mod frame;
+mod layout;
+mod row;
+
+use lta::{Moved, Refusal, Shape, Sums};
+
+use cell::{Cell, CellRef};
+use layout::Layout;
+
+const OPEN_LIMIT: i64 = 524_288;
+const BIN_LIMIT: i64 = 16_777_215;
+const RUN_LIMIT: i64 = 2_147_483_648;
+const PEAK: i64 = 98;
+
+const FREE: i64 = 0;
+const FILLING: i64 = 1;
+const READY: i64 = 2;
+
+const SAVE: u64 = 0b000;
+const LAST: u64 = 0b010;
+const DISCARD: u64 = 0b100;
+const IDLE: u64 = 0b111;
+
+fn check(holds: bool, refusal: Refusal) -> Result<(), Refusal> {
+    if holds {
+        Ok(())
+    } else {
+        Err(refusal)
+    }
+}
+
+fn shape_ok(s: &Shape) -> bool {
+    (1..=16).contains(&s.cells)
+        && lags_ok(s.lags)
+        && (1..=1000).contains(&s.bins)
+        && (1..=256).contains(&s.blocks)
+        && s.start <= 256 - s.blocks
+        && (1..=256_000_000).contains(&s.rate)
+        && s.second <= 2_147_483_647
+}
+
+fn lags_ok(lags: u64) -> bool {
+    (2..=128).contains(&lags) && lags % 2 == 0
+}
+
+/// The words of work memory that a shape needs.
+pub fn words_needed(shape: &Shape) -> Result<usize, Refusal> {
+    check(shape_ok(shape), Refusal::BadShape)?;
+    Ok(1 + shape.cells as usize * Layout::new(shape).words())
+}
+
+/// Refusals 1 and 2, and then the layout of a cell.
+fn host(shape: &Shape, words: usize) -> Result<Layout, Refusal> {
+    check(words_needed(shape)? == words, Refusal::WrongMemory)?;
+    Ok(Layout::new(shape))
+}
+
+/// Clears the memory: a fresh run.
+pub fn setup(shape: &Shape, mem: &mut [i64]) -> Result<(), Refusal> {
+    let layout = host(shape, mem.len())?;
+    mem.fill(0);
+    for words in mem[1..].chunks_exact_mut(layout.words()) {
+        words[layout.x()].fill(row::INVALID);
+        words[layout.y()].fill(row::INVALID);
+    }
+    Ok(())
+}
+
+/// One tick; answers the number of cells held off.
+pub fn tick(shape: &Shape, mem: &mut [i64], samples: &[u8]) -> Result<u32, Refusal> {
+    let layout = host(shape, mem.len())?;
+    check(samples.len() as u64 == 2 * shape.cells, Refusal::WrongSamples)?;
+    let t = mem[0];
+    check(t != RUN_LIMIT, Refusal::RunFull)?;
+    let mut cells = mem[1..].chunks_exact(layout.words());
+    let sound = (0..=RUN_LIMIT).contains(&t) && cells.all(|words| CellRef { layout, words }.tick_ok(t));
+    check(sound, Refusal::Damaged)?;
+    let mut held_off = 0;
+    for (words, xy) in mem[1..].chunks_exact_mut(layout.words()).zip(samples.chunks_exact(2)) {
+        held_off += u32::from(Cell { layout, words }.tick(xy[0], xy[1]));
+    }
+    mem[0] = t + 1;
+    Ok(held_off)
+}
+
+/// The words of a cell, or refusal 5.
+fn part(shape: &Shape, layout: &Layout, cell: u64) -> Result<std::ops::Range<usize>, Refusal> {
+    check(cell < shape.cells, Refusal::NoCell)?;
+    let start = 1 + cell as usize * layout.words();
+    Ok(start..start + layout.words())
+}
+
+fn bin_rule_ok(s: &Shape, bank: u64, phase: u64, block: u64) -> bool {
+    bank < 2 && (s.start..s.start + s.blocks).contains(&block) && phase < s.bins / s.blocks
+}
+
+/// A dump of one cell.
+pub fn dump(
+    shape: &Shape,
+    mem: &mut [i64],
+    cell: u64,
+    command: u64,
+    bank: u64,
+    phase: u64,
+    block: u64,
+) -> Result<Moved, Refusal> {
+    let layout = host(shape, mem.len())?;
+    let part = part(shape, &layout, cell)?;
+    check(matches!(command, SAVE..=LAST | DISCARD | IDLE), Refusal::BadCommand)?;
+    check(bin_rule_ok(shape, bank, phase, block), Refusal::NoBin)?;
+    let t = mem[0];
+    let words = &mut mem[part];
+    let sound = (0..=RUN_LIMIT).contains(&t) && CellRef { layout, words }.dump_ok(t, command);
+    check(sound, Refusal::Damaged)?;
+    let bin = phase * shape.blocks + (block - shape.start);
+    Ok(Cell { layout, words }.dump(t, command, bank, bin))
+}
+
+/// An integration of one cell.
+pub fn integrate(shape: &Shape, mem: &mut [i64], cell: u64) -> Result<Moved, Refusal> {
+    let layout = host(shape, mem.len())?;
+    let part = part(shape, &layout, cell)?;
+    let t = mem[0];
+    let words = &mut mem[part];
+    let view = CellRef { layout, words };
+    check((0..=RUN_LIMIT).contains(&t) && view.integrate_ok(t), Refusal::Damaged)?;
+    check(view.occupied(), Refusal::NothingHeld)?;
+    Ok(Cell { layout, words }.integrate())
+}
+
+/// An emission of a Ready bin into the front of out; answers the frame's length.
+pub fn emit(
+    shape: &Shape,
+    mem: &mut [i64],
+    cell: u64,
+    bank: u64,
+    bin: u64,
+    out: &mut [u8],
+) -> Result<usize, Refusal> {
+    let layout = host(shape, mem.len())?;
+    let part = part(shape, &layout, cell)?;
+    check(bank < 2 && bin < shape.bins, Refusal::NoBin)?;
+    let t = mem[0];
+    let words = &mut mem[part];
+    let number = (bank * shape.bins + bin) as usize;
+    let view = CellRef { layout, words };
+    check((0..=RUN_LIMIT).contains(&t) && view.bin_ok(t, number), Refusal::Damaged)?;
+    check(words[layout.state(number)] == READY, Refusal::NotReady)?;
+    let length = shape.frame_length();
+    check(out.len() >= length, Refusal::ShortBuffer)?;
+    let stamp = words[layout.bin_stamp(number)] as u64;
+    let header = frame::bin_header(shape, cell, bank, bin, stamp, &words[layout.bin_row(number)]);
+    frame::put_frame(&mut out[..length], &header, &words[layout.bin_row(number)][3..]);
+    words[layout.state(number)] = FREE;
+    words[layout.bin_row(number)].fill(0);
+    Ok(length)
+}
+
+/// A reading of one loss at one lag.
+pub fn reading(shape: &Shape, mem: &[i64], cell: u64, lag: u64, loss: u64) -> Result<Sums, Refusal> {
+    let layout = host(shape, mem.len())?;
+    let part = part(shape, &layout, cell)?;
+    check(lag < shape.lags && (1..=6).contains(&loss), Refusal::NoLag)?;
+    let words = &mem[part];
+    let sound = (0..=RUN_LIMIT).contains(&mem[0]) && CellRef { layout, words }.losses_ok();
+    check(sound, Refusal::Damaged)?;
+    let row = &words[layout.loss(loss as usize - 1)];
+    let at = 3 + 2 * lag as usize;
+    let [ticks, edge, centre] = [row[0], row[1], row[2]].map(|count| count as u64);
+    Ok(Sums { i: row[at], q: row[at + 1], ticks, edge, centre })
+}
+
+/// The ticks that a cell may still take before it is held off.
+pub fn forecast(shape: &Shape, mem: &[i64], cell: u64) -> Result<u32, Refusal> {
+    let layout = host(shape, mem.len())?;
+    let part = part(shape, &layout, cell)?;
+    let t = mem[0];
+    let words = &mem[part];
+    let sound = (0..=RUN_LIMIT).contains(&t) && CellRef { layout, words }.open_ok(t);
+    check(sound, Refusal::Damaged)?;
+    Ok((OPEN_LIMIT - words[layout.open()][0]) as u32)
+}

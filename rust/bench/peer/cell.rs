@@ -1,0 +1,191 @@
+//! One cell: the tests of its parts, and what each call does in it.
+use std::ops::Range;
+
+use lta::{Loss, Moved};
+
+use super::layout::{Layout, BANK, COMMAND, DATA_BIN, HELD_STAMP, OCCUPIED, OPEN_STAMP};
+use super::row::{add_tick, move_row, register_ok, row_ok, shift};
+use super::{BIN_LIMIT, DISCARD, FILLING, FREE, IDLE, LAST, OPEN_LIMIT, READY, RUN_LIMIT, SAVE};
+
+/// The words of a cell, to be tested.
+#[derive(Clone, Copy)]
+pub struct CellRef<'a> {
+    pub layout: Layout,
+    pub words: &'a [i64],
+}
+
+impl CellRef<'_> {
+    fn ticks(&self, row: Range<usize>) -> i64 {
+        self.words[row.start]
+    }
+
+    fn loss_fits(&self, loss: Loss, ticks: i64) -> bool {
+        self.ticks(self.layout.loss(loss.number() as usize - 1)) + ticks <= RUN_LIMIT
+    }
+
+    fn stamp_ok(&self, at: usize, t: i64) -> bool {
+        (0..=t).contains(&self.words[at])
+    }
+
+    pub fn occupied(&self) -> bool {
+        self.words[OCCUPIED] == 1
+    }
+
+    pub fn open_ok(&self, t: i64) -> bool {
+        self.stamp_ok(OPEN_STAMP, t) && row_ok(&self.words[self.layout.open()], OPEN_LIMIT)
+    }
+
+    pub fn losses_ok(&self) -> bool {
+        let mut rows = self.words[self.layout.losses()].chunks_exact(self.layout.row_words());
+        rows.all(|row| row_ok(row, RUN_LIMIT))
+    }
+
+    fn held_ok(&self, t: i64) -> bool {
+        let row = &self.words[self.layout.held()];
+        let flag_ok = self.occupied() || (self.words[OCCUPIED] == 0 && row[0] == 0);
+        flag_ok && self.stamp_ok(HELD_STAMP, t) && row_ok(row, OPEN_LIMIT)
+    }
+
+    fn label_ok(&self) -> bool {
+        (SAVE as i64..=LAST as i64).contains(&self.words[COMMAND])
+            && (0..2).contains(&self.words[BANK])
+            && (0..self.layout.bins as i64).contains(&self.words[DATA_BIN])
+    }
+
+    pub fn bin_ok(&self, t: i64, number: usize) -> bool {
+        let row = &self.words[self.layout.bin_row(number)];
+        let state_ok = match self.words[self.layout.state(number)] {
+            FREE => row[0] == 0,
+            FILLING | READY => true,
+            _ => false,
+        };
+        state_ok && self.stamp_ok(self.layout.bin_stamp(number), t) && row_ok(row, BIN_LIMIT)
+    }
+
+    pub fn tick_ok(&self, t: i64) -> bool {
+        let full = self.ticks(self.layout.open()) == OPEN_LIMIT;
+        register_ok(&self.words[self.layout.x()])
+            && register_ok(&self.words[self.layout.y()])
+            && self.open_ok(t)
+            && self.losses_ok()
+            && (!full || self.loss_fits(Loss::Holdoff, 1))
+    }
+
+    pub fn dump_ok(&self, t: i64, command: u64) -> bool {
+        if !(self.open_ok(t) && self.held_ok(t) && self.label_ok() && self.losses_ok()) {
+            return false;
+        }
+        let open = self.ticks(self.layout.open());
+        match command {
+            IDLE => true,
+            DISCARD => self.loss_fits(Loss::Ordered, open),
+            _ => !self.occupied() || self.loss_fits(Loss::Overrun, open),
+        }
+    }
+
+    /// The bin of Held's label.
+    fn held_bin(&self) -> usize {
+        self.words[BANK] as usize * self.layout.bins + self.words[DATA_BIN] as usize
+    }
+
+    fn wide(&self) -> bool {
+        let bin = self.ticks(self.layout.bin_row(self.held_bin()));
+        bin + self.ticks(self.layout.held()) > BIN_LIMIT
+    }
+
+    pub fn integrate_ok(&self, t: i64) -> bool {
+        if !(self.held_ok(t) && self.losses_ok()) {
+            return false;
+        }
+        if !self.occupied() {
+            return true;
+        }
+        if !(self.label_ok() && self.bin_ok(t, self.held_bin())) {
+            return false;
+        }
+        let bin = self.held_bin();
+        let held = self.ticks(self.layout.held());
+        match (self.words[self.layout.state(bin)], self.words[COMMAND] as u64) {
+            (READY, _) => self.loss_fits(Loss::Full, held),
+            (FILLING, SAVE) => self.loss_fits(Loss::Replaced, self.ticks(self.layout.bin_row(bin))),
+            (FILLING, _) if self.wide() => self.loss_fits(Loss::Wide, held),
+            _ => true,
+        }
+    }
+}
+
+/// The words of a cell that has been tested.
+pub struct Cell<'a> {
+    pub layout: Layout,
+    pub words: &'a mut [i64],
+}
+
+impl Cell<'_> {
+    fn move_row(&mut self, from: Range<usize>, to: Range<usize>) {
+        let rows = self.words.get_disjoint_mut([from, to]);
+        let [from, to] = rows.expect("two rows of one cell");
+        move_row(from, to);
+    }
+
+    fn lose(&mut self, row: Range<usize>, loss: Loss) -> Moved {
+        self.move_row(row, self.layout.loss(loss.number() as usize - 1));
+        Moved::Lost(loss)
+    }
+
+    /// Answers whether the cell is held off.
+    pub fn tick(&mut self, x: u8, y: u8) -> bool {
+        let layout = self.layout;
+        shift(&mut self.words[layout.x()], x);
+        shift(&mut self.words[layout.y()], y);
+        let full = self.words[layout.open().start] == OPEN_LIMIT;
+        let row = if full { layout.loss(5) } else { layout.open() };
+        let parts = self.words.get_disjoint_mut([row, layout.x(), layout.y()]);
+        let [row, x, y] = parts.expect("a row and two registers");
+        add_tick(row, x, y);
+        full
+    }
+
+    pub fn dump(&mut self, t: i64, command: u64, bank: u64, bin: u64) -> Moved {
+        if command == IDLE {
+            return Moved::Idle;
+        }
+        let stamp = std::mem::replace(&mut self.words[OPEN_STAMP], t);
+        if command == DISCARD {
+            return self.lose(self.layout.open(), Loss::Ordered);
+        }
+        if self.words[OCCUPIED] == 1 {
+            return self.lose(self.layout.open(), Loss::Overrun);
+        }
+        self.words[OCCUPIED] = 1;
+        self.words[COMMAND] = command as i64;
+        self.words[BANK] = bank as i64;
+        self.words[DATA_BIN] = bin as i64;
+        self.words[HELD_STAMP] = stamp;
+        self.move_row(self.layout.open(), self.layout.held());
+        Moved::Kept
+    }
+
+    pub fn integrate(&mut self) -> Moved {
+        let layout = self.layout;
+        let view = CellRef { layout, words: self.words };
+        let (bin, wide) = (view.held_bin(), view.wide());
+        let command = self.words[COMMAND] as u64;
+        let state = self.words[layout.state(bin)];
+        self.words[OCCUPIED] = 0;
+        if state == READY {
+            return self.lose(layout.held(), Loss::Full);
+        }
+        self.words[layout.state(bin)] = if command == LAST { READY } else { FILLING };
+        let mut moved = Moved::Kept;
+        if state == FILLING && command == SAVE {
+            moved = self.lose(layout.bin_row(bin), Loss::Replaced);
+        } else if state == FILLING && wide {
+            return self.lose(layout.held(), Loss::Wide);
+        }
+        if state == FREE || command == SAVE {
+            self.words[layout.bin_stamp(bin)] = self.words[HELD_STAMP];
+        }
+        self.move_row(layout.held(), layout.bin_row(bin));
+        moved
+    }
+}

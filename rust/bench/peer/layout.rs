@@ -1,0 +1,83 @@
+//! Where the parts of a cell stand in its words.
+use std::ops::Range;
+
+use lta::Shape;
+
+pub const OCCUPIED: usize = 0;
+pub const COMMAND: usize = 1;
+pub const BANK: usize = 2;
+pub const DATA_BIN: usize = 3;
+pub const OPEN_STAMP: usize = 4;
+pub const HELD_STAMP: usize = 5;
+const HEAD: usize = 6;
+
+#[derive(Clone, Copy)]
+pub struct Layout {
+    pub bins: usize,
+    row: usize,
+    depth: usize,
+}
+
+impl Layout {
+    pub fn new(shape: &Shape) -> Layout {
+        let lags = shape.lags as usize;
+        Layout { bins: shape.bins as usize, row: 3 + 2 * lags, depth: lags / 2 + 1 }
+    }
+
+    /// The words of a cell.
+    pub fn words(&self) -> usize {
+        self.bin_start(2 * self.bins)
+    }
+
+    fn row(&self, number: usize) -> Range<usize> {
+        let start = HEAD + number * self.row;
+        start..start + self.row
+    }
+
+    pub fn open(&self) -> Range<usize> {
+        self.row(0)
+    }
+
+    pub fn held(&self) -> Range<usize> {
+        self.row(1)
+    }
+
+    pub fn loss(&self, number: usize) -> Range<usize> {
+        self.row(2 + number)
+    }
+
+    pub fn losses(&self) -> Range<usize> {
+        self.row(2).start..self.row(8).start
+    }
+
+    pub fn row_words(&self) -> usize {
+        self.row
+    }
+
+    pub fn x(&self) -> Range<usize> {
+        let start = self.losses().end;
+        start..start + self.depth
+    }
+
+    pub fn y(&self) -> Range<usize> {
+        let start = self.x().end;
+        start..start + self.depth
+    }
+
+    fn bin_start(&self, number: usize) -> usize {
+        self.y().end + number * (2 + self.row)
+    }
+
+    pub fn state(&self, number: usize) -> usize {
+        self.bin_start(number)
+    }
+
+    pub fn bin_stamp(&self, number: usize) -> usize {
+        self.bin_start(number) + 1
+    }
+
+    pub fn bin_row(&self, number: usize) -> Range<usize> {
+        let start = self.bin_start(number) + 2;
+        start..start + self.row
+    }
+}

@@ -1,0 +1,41 @@
+//! The lag engine and its long-term accumulator, proved, for programs in Rust.
+//!
+//! A [`Run`] owns its work memory and takes ticks, dumps, integrations and emissions. A [`Frame`] is what an emission
+//! gives, and what the reader accepts of bytes from elsewhere. A call that is refused gives a [`Refusal`] and changes
+//! nothing. What each call means is in document 01, whose terms are used here.
+//!
+//! The work is done by a static library that is proved to do it ([`ffi`] is its C interface over slices); this crate
+//! adds types and owns the memory.
+//!
+//! ```
+//! use lta::{Command, Run, Shape};
+//!
+//! # fn main() -> Result<(), lta::Refusal> {
+//! let shape = Shape { cells: 1, lags: 2, bins: 2, blocks: 1, start: 0, rate: 4, second: 0 };
+//! let mut run = Run::new(shape)?;
+//! for samples in [[0x02, 0x03], [0x01, 0x0f], [0x08, 0x02]] {
+//!     run.tick(&samples)?;
+//! }
+//! run.dump(0, Command::Last, 0, 0, 0)?;
+//! run.integrate(0)?;
+//! let frame = run.emit_frame(0, 0, 0)?;
+//! assert_eq!(frame.fields().ticks, 3);
+//! assert_eq!(frame.lags().collect::<Vec<_>>(), [(6, 0), (10, 0)]);
+//! # Ok(())
+//! # }
+//! ```
+#![deny(missing_docs)]
+#![deny(unsafe_code)]
+
+pub mod ffi;
+mod frame;
+mod moves;
+mod refusal;
+mod run;
+mod shape;
+
+pub use frame::{Complex, Fields, Frame};
+pub use moves::{Command, Loss, Moved, Sums};
+pub use refusal::Refusal;
+pub use run::Run;
+pub use shape::Shape;

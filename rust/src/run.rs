@@ -1,0 +1,184 @@
+//! A run that owns its work memory.
+use crate::ffi::{self, outcome};
+use crate::{Command, Frame, Loss, Moved, Refusal, Shape, Sums};
+
+/// A run: a shape and the work memory that belongs to it.
+///
+/// ```
+/// use lta::{Command, Loss, Moved, Refusal, Run, Shape};
+///
+/// # fn main() -> Result<(), Refusal> {
+/// let shape = Shape { cells: 1, lags: 4, bins: 1, blocks: 1, start: 0, rate: 1000, second: 0 };
+/// let mut run = Run::new(shape)?;
+/// assert_eq!(run.tick(&[0x07, 0x07])?, 0);
+/// assert_eq!(run.integrate(0), Err(Refusal::NothingHeld));
+/// assert_eq!(run.dump(0, Command::Discard, 0, 0, 0)?, Moved::Lost(Loss::Ordered));
+/// assert_eq!(run.reading(0, 2, Loss::Ordered)?.ticks, 1);
+/// # Ok(())
+/// # }
+/// ```
+#[derive(Clone, Debug, PartialEq, Eq)]
+pub struct Run {
+    shape: Shape,
+    numbers: [u64; 7],
+    words: Vec<u64>,
+}
+
+impl Run {
+    /// A fresh run: tick number 0, all sets empty, every earlier sample invalid. Refuses 1.
+    ///
+    /// ```
+    /// # use lta::{Refusal, Run, Shape};
+    /// let shape = Shape { cells: 17, lags: 2, bins: 1, blocks: 1, start: 0, rate: 4, second: 0 };
+    /// assert_eq!(Run::new(shape), Err(Refusal::BadShape));
+    /// ```
+    pub fn new(shape: Shape) -> Result<Run, Refusal> {
+        let numbers = shape.numbers();
+        let mut words = vec![0; shape.words_needed()?];
+        outcome(ffi::setup(&numbers, &mut words))?;
+        Ok(Run { shape, numbers, words })
+    }
+
+    /// The shape of the run.
+    pub fn shape(&self) -> Shape {
+        self.shape
+    }
+
+    /// The words of work memory, as docs/LAYOUT.md lays them out.
+    ///
+    /// ```
+    /// # let shape = lta::Shape { cells: 1, lags: 2, bins: 1, blocks: 1, start: 0, rate: 4, second: 0 };
+    /// let mut run = lta::Run::new(shape)?;
+    /// run.tick(&[0, 0])?;
+    /// assert_eq!((run.words().len(), run.words()[0]), (85, 1));
+    /// # Ok::<(), lta::Refusal>(())
+    /// ```
+    pub fn words(&self) -> &[u64] {
+        &self.words
+    }
+
+    /// One tick: an X byte and a Y byte for each cell in turn. Gives the number of cells held off. Refuses 3, 4.
+    ///
+    /// The low four bits of a byte are the sample, two's complement, 8h for an invalid one; the high four its phase.
+    ///
+    /// ```
+    /// # use lta::{Refusal, Run, Shape};
+    /// # let shape = Shape { cells: 1, lags: 2, bins: 1, blocks: 1, start: 0, rate: 4, second: 0 };
+    /// let mut run = Run::new(shape)?;
+    /// assert_eq!(run.tick(&[0x37, 0x08]), Ok(0));
+    /// assert_eq!(run.tick(&[0x37]), Err(Refusal::WrongSamples));
+    /// # Ok::<(), Refusal>(())
+    /// ```
+    pub fn tick(&mut self, samples: &[u8]) -> Result<u32, Refusal> {
+        outcome(ffi::tick(&self.numbers, &mut self.words, samples))
+    }
+
+    /// A dump of one cell, for data bin phase × M + (block - S). Refuses 5, 7.
+    ///
+    /// ```
+    /// # use lta::{Command, Loss, Moved, Run, Shape};
+    /// # let shape = Shape { cells: 1, lags: 2, bins: 1, blocks: 1, start: 0, rate: 4, second: 0 };
+    /// let mut run = Run::new(shape)?;
+    /// assert_eq!(run.dump(0, Command::Last, 0, 0, 0)?, Moved::Kept);
+    /// assert_eq!(run.dump(0, Command::Last, 0, 0, 0)?, Moved::Lost(Loss::Overrun));
+    /// # Ok::<(), lta::Refusal>(())
+    /// ```
+    pub fn dump(
+        &mut self,
+        cell: u64,
+        command: Command,
+        bank: u64,
+        phase: u64,
+        block: u64,
+    ) -> Result<Moved, Refusal> {
+        let result = ffi::dump(&self.numbers, &mut self.words, cell, command as u64, bank, phase, block);
+        outcome(result).map(Moved::from_answer)
+    }
+
+    /// An integration of one cell: Held goes to its bin. Refuses 5, 8.
+    ///
+    /// ```
+    /// # use lta::{Command, Moved, Refusal, Run, Shape};
+    /// # let shape = Shape { cells: 1, lags: 2, bins: 1, blocks: 1, start: 0, rate: 4, second: 0 };
+    /// let mut run = Run::new(shape)?;
+    /// run.dump(0, Command::Add, 0, 0, 0)?;
+    /// assert_eq!(run.integrate(0), Ok(Moved::Kept));
+    /// assert_eq!(run.integrate(0), Err(Refusal::NothingHeld));
+    /// # Ok::<(), Refusal>(())
+    /// ```
+    pub fn integrate(&mut self, cell: u64) -> Result<Moved, Refusal> {
+        outcome(ffi::integrate(&self.numbers, &mut self.words, cell)).map(Moved::from_answer)
+    }
+
+    /// An emission of a Ready bin into the front of `out`, whose other bytes stay. Gives the frame's length.
+    /// Refuses 5, 7, 9, 10.
+    ///
+    /// ```
+    /// # use lta::{Command, Refusal, Run, Shape};
+    /// # let shape = Shape { cells: 1, lags: 2, bins: 1, blocks: 1, start: 0, rate: 4, second: 0 };
+    /// let mut run = Run::new(shape)?;
+    /// run.dump(0, Command::Last, 0, 0, 0)?;
+    /// run.integrate(0)?;
+    /// let mut out = [0; 60];
+    /// assert_eq!(run.emit(0, 0, 0, &mut out[..49]), Err(Refusal::ShortBuffer));
+    /// assert_eq!(run.emit(0, 0, 0, &mut out), Ok(50));
+    /// assert_eq!(out[..2], *b"LT");
+    /// # Ok::<(), Refusal>(())
+    /// ```
+    pub fn emit(&mut self, cell: u64, bank: u64, bin: u64, out: &mut [u8]) -> Result<usize, Refusal> {
+        let result = ffi::emit(&self.numbers, &mut self.words, cell, bank, bin, out);
+        outcome(result).map(|length| length as usize)
+    }
+
+    /// An emission of a Ready bin as a frame of its own. Refuses 5, 7, 9.
+    ///
+    /// ```
+    /// # use lta::{Command, Refusal, Run, Shape};
+    /// # let shape = Shape { cells: 1, lags: 2, bins: 1, blocks: 1, start: 0, rate: 4, second: 0 };
+    /// let mut run = Run::new(shape)?;
+    /// run.dump(0, Command::Last, 1, 0, 0)?;
+    /// run.integrate(0)?;
+    /// assert_eq!(run.emit_frame(0, 1, 0)?.fields().bank, 1);
+    /// assert_eq!(run.emit_frame(0, 1, 0), Err(Refusal::NotReady));
+    /// # Ok::<(), Refusal>(())
+    /// ```
+    pub fn emit_frame(&mut self, cell: u64, bank: u64, bin: u64) -> Result<Frame<'static>, Refusal> {
+        let mut bytes = vec![0; self.shape.frame_length()];
+        self.emit(cell, bank, bin, &mut bytes)?;
+        Frame::from_vec(self.shape.lags, bytes)
+    }
+
+    /// A reading of one loss of one cell at one lag. It changes nothing. Refuses 5, 12.
+    ///
+    /// ```
+    /// # use lta::{Command, Loss, Refusal, Run, Shape, Sums};
+    /// # let shape = Shape { cells: 1, lags: 2, bins: 1, blocks: 1, start: 0, rate: 4, second: 0 };
+    /// let mut run = Run::new(shape)?;
+    /// run.tick(&[0x02, 0x03])?;
+    /// run.tick(&[0x01, 0x0f])?;
+    /// run.dump(0, Command::Discard, 0, 0, 0)?;
+    /// let sums = Sums { i: 12, q: 0, ticks: 2, edge: 1, centre: 1 };
+    /// assert_eq!(run.reading(0, 1, Loss::Ordered), Ok(sums));
+    /// assert_eq!(run.reading(0, 2, Loss::Ordered), Err(Refusal::NoLag));
+    /// # Ok::<(), Refusal>(())
+    /// ```
+    pub fn reading(&self, cell: u64, lag: u64, loss: Loss) -> Result<Sums, Refusal> {
+        let (mut sums, mut counts) = ([0; 2], [0; 3]);
+        let number = u64::from(loss.number());
+        outcome(ffi::reading(&self.numbers, &self.words, cell, lag, number, &mut sums, &mut counts))?;
+        let ([i, q], [ticks, edge, centre]) = (sums, counts);
+        Ok(Sums { i, q, ticks, edge, centre })
+    }
+
+    /// The ticks that a cell may still take before it is held off. Refuses 5.
+    ///
+    /// ```
+    /// # let shape = lta::Shape { cells: 1, lags: 2, bins: 1, blocks: 1, start: 0, rate: 4, second: 0 };
+    /// let run = lta::Run::new(shape)?;
+    /// assert!((1..=524_288).contains(&run.forecast(0)?));
+    /// # Ok::<(), lta::Refusal>(())
+    /// ```
+    pub fn forecast(&self, cell: u64) -> Result<u32, Refusal> {
+        outcome(ffi::forecast(&self.numbers, &self.words, cell))
+    }
+}

@@ -1,0 +1,57 @@
+//! The calls on a run and their replies.
+
+/// The seven numbers C, N, B, M, S, R and Z.
+#[derive(Clone, Copy, Debug, PartialEq, Eq)]
+pub struct Shape {
+    pub cells: u64,
+    pub lags: u64,
+    pub bins: u64,
+    pub blocks: u64,
+    pub start: u64,
+    pub rate: u64,
+    pub second: u64,
+}
+
+impl Shape {
+    pub fn numbers(&self) -> [u64; 7] {
+        [self.cells, self.lags, self.bins, self.blocks, self.start, self.rate, self.second]
+    }
+
+    pub fn frame_length(&self) -> usize {
+        34 + 8 * self.lags as usize
+    }
+
+    /// The data bin of a phase bin and a block that the data bin rule accepts.
+    pub fn data_bin(&self, phase: u64, block: u64) -> u64 {
+        phase * self.blocks + (block - self.start)
+    }
+}
+
+/// A call with its arguments; room is the length of the buffer that is lent with it, or of the two buffers.
+#[derive(Clone, Debug)]
+pub enum Call {
+    Tick { samples: Vec<u8> },
+    Dump { cell: u64, command: u64, bank: u64, phase: u64, block: u64 },
+    Integrate { cell: u64 },
+    Emit { cell: u64, bank: u64, bin: u64, room: usize },
+    Reading { cell: u64, lag: u64, loss: u64, room: [usize; 2] },
+    Forecast { cell: u64 },
+}
+
+#[derive(Clone, Debug, PartialEq, Eq)]
+pub enum Reply {
+    Refused(u32),
+    Number(u64),
+    Frame(Vec<u8>),
+    Sums([i64; 5]),
+    /// From the engine the forecast itself, from a model the most that it may be.
+    Forecast(u64),
+}
+
+/// Is the engine's reply one that document 01 allows where a model gives the other?
+pub fn agrees(engine: &Reply, model: &Reply) -> bool {
+    match (engine, model) {
+        (Reply::Forecast(ticks), Reply::Forecast(most)) => ticks <= most && (*ticks > 0 || *most == 0),
+        _ => engine == model,
+    }
+}

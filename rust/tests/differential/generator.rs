@@ -1,0 +1,192 @@
+//! Random shapes and random calls: most of them accepted, some refused for each reason that a call has.
+use crate::call::{Call, Shape};
+use crate::random::Random;
+
+/// A shape within its limits; often at one of them.
+pub fn shape(random: &mut Random) -> Shape {
+    let cells = random.within(1, 16);
+    let half = random.within(1, 64);
+    let bins = random.within(1, 24);
+    let shape = Shape {
+        cells: random.pick(&[1, 1, 2, 3, 16, cells]),
+        lags: random.pick(&[2, 4, 6, 32, 128, 2 * half]),
+        bins: random.pick(&[1, 2, 7, bins]),
+        blocks: 1,
+        start: 0,
+        rate: 1,
+        second: 0,
+    };
+    let many = random.once_in(100);
+    let shape = Shape { bins: if many { 1000 } else { shape.bins }, ..shape };
+    let shape = with_blocks(random, shape);
+    with_times(random, shape)
+}
+
+/// A shape of few cells and bins, and mostly of few lags, whose words are forged and sums worked out one by one.
+pub fn small_shape(random: &mut Random) -> Shape {
+    let most = if random.once_in(8) { 64 } else { 5 };
+    let shape = Shape {
+        cells: random.within(1, 3),
+        lags: 2 * random.within(1, most),
+        bins: random.within(1, 4),
+        blocks: 1,
+        start: 0,
+        rate: 1,
+        second: 0,
+    };
+    let shape = with_blocks(random, shape);
+    with_times(random, shape)
+}
+
+/// Blocks of which at least one phase bin fits, but for one shape in 20.
+fn with_blocks(random: &mut Random, shape: Shape) -> Shape {
+    let fits = random.within(1, shape.bins.min(256));
+    let any = random.within(1, 256);
+    let blocks = if random.once_in(20) { any } else { random.pick(&[1, 1, fits]) };
+    let start = random.within(0, 256 - blocks);
+    Shape { blocks, start: random.pick(&[0, 256 - blocks, start]), ..shape }
+}
+
+fn with_times(random: &mut Random, shape: Shape) -> Shape {
+    let rate = random.within(1, 256_000_000);
+    let second = random.within(0, 2_147_483_647);
+    Shape {
+        rate: random.pick(&[1, 7, 1000, 256_000_000, rate]),
+        second: random.pick(&[0, 2_147_483_647, second]),
+        ..shape
+    }
+}
+
+/// Which sampler bytes a list has.
+#[derive(Clone, Copy)]
+enum Sky {
+    Any,
+    /// Samples of 7 and -7 in phases that give the greatest weights.
+    Loud,
+    /// Mostly invalid samples.
+    Broken,
+}
+
+pub struct Generator {
+    pub random: Random,
+    pub shape: Shape,
+    sky: Sky,
+    /// Cell, bank and data bin of the latest dumps, which are the likely ones to be emitted.
+    recent: [(u64, u64, u64); 4],
+    at: usize,
+}
+
+impl Generator {
+    pub fn new(mut random: Random, shape: Shape) -> Generator {
+        let sky = random.pick(&[Sky::Any, Sky::Any, Sky::Loud, Sky::Broken]);
+        Generator { random, shape, sky, recent: [(0, 0, 0); 4], at: 0 }
+    }
+
+    fn sample(&mut self) -> u8 {
+        let byte = self.random.byte();
+        match self.sky {
+            Sky::Any => byte,
+            Sky::Loud => self.random.pick(&[0x07, 0x09, 0x17, 0x89]),
+            Sky::Broken if byte & 0xc0 == 0 => byte << 2,
+            Sky::Broken => byte & 0xf0 | 8,
+        }
+    }
+
+    fn samples(&mut self) -> Vec<u8> {
+        let right = 2 * self.shape.cells as usize;
+        let count = if self.random.once_in(40) {
+            self.random.pick(&[0, 1, right - 1, right + 1, right + 2])
+        } else {
+            right
+        };
+        (0..count).map(|_| self.sample()).collect()
+    }
+
+    /// A number below the limit, or one time in 40 one that is not.
+    fn argument(&mut self, limit: u64) -> u64 {
+        if self.random.once_in(40) {
+            let far = self.random.extreme();
+            return self.random.pick(&[limit, limit + 1, far]);
+        }
+        self.random.below(limit)
+    }
+
+    fn dump(&mut self) -> Call {
+        let Shape { bins, blocks, start, .. } = self.shape;
+        let cell = self.argument(self.shape.cells);
+        let usual = self.random.pick(&[0, 1, 1, 2, 2, 2, 4, 7]);
+        let other = self.random.below(10);
+        let command = if self.random.once_in(20) { other } else { usual };
+        let bank = self.argument(2);
+        let phases = (bins / blocks).max(1);
+        let few = phases.min(3);
+        let phase = if self.random.once_in(3) { self.argument(phases) } else { self.random.below(few) };
+        let early = start.wrapping_sub(1);
+        let block = if self.random.once_in(40) { early } else { start.wrapping_add(self.argument(blocks)) };
+        if cell < self.shape.cells && bank < 2 && phase < phases && block.wrapping_sub(start) < blocks {
+            self.recent[self.at % 4] = (cell, bank, self.shape.data_bin(phase, block));
+            self.at += 1;
+        }
+        Call::Dump { cell, command, bank, phase, block }
+    }
+
+    fn emit(&mut self) -> Call {
+        let (mut cell, mut bank, mut bin) = self.random.pick(&self.recent);
+        if self.random.once_in(8) {
+            cell = self.argument(self.shape.cells);
+            bank = self.argument(2);
+            bin = self.argument(self.shape.bins);
+        }
+        let length = self.shape.frame_length();
+        let room = if self.random.once_in(6) {
+            self.random.pick(&[0, 1, length - 1, length + 1, length + 100])
+        } else {
+            length
+        };
+        Call::Emit { cell, bank, bin, room }
+    }
+
+    fn reading(&mut self) -> Call {
+        let cell = self.argument(self.shape.cells);
+        let lag = self.argument(self.shape.lags);
+        let loss = self.argument(6).wrapping_add(1);
+        let loss = if self.random.once_in(40) { 0 } else { loss };
+        let room = if self.random.once_in(20) {
+            self.random.pick(&[[0, 3], [1, 3], [2, 2], [3, 4]])
+        } else {
+            [2, 3]
+        };
+        Call::Reading { cell, lag, loss, room }
+    }
+
+    /// One call, a tick in about half of the cases.
+    pub fn call(&mut self) -> Call {
+        match self.random.below(32) {
+            0..=15 => Call::Tick { samples: self.samples() },
+            16..=21 => self.dump(),
+            22..=26 => Call::Integrate { cell: self.argument(self.shape.cells) },
+            27..=28 => self.emit(),
+            29..=30 => self.reading(),
+            _ => Call::Forecast { cell: self.argument(self.shape.cells) },
+        }
+    }
+
+    /// Seven numbers and a length of work memory of which refusal 1 or 2 is given.
+    pub fn wrong_host(&mut self, words: usize) -> (Vec<u64>, usize) {
+        let mut numbers = self.shape.numbers().to_vec();
+        if self.random.once_in(2) {
+            return (numbers, self.random.pick(&[0, 1, words - 1, words + 1]));
+        }
+        let most = [17, 130, 1001, 257, 257, 256_000_001, 2_147_483_648];
+        let at = self.random.below(7) as usize;
+        let far = self.random.extreme() | 1 << 31;
+        match self.random.below(4) {
+            0 => numbers.truncate(at),
+            1 => numbers.push(0),
+            2 => numbers[1] |= 1,
+            _ => numbers[at] = self.random.pick(&[most[at], far]),
+        }
+        let length = self.random.pick(&[words, words, 0, words + 1]);
+        (numbers, length)
+    }
+}

@@ -1,0 +1,141 @@
+//! The words of a run by docs/LAYOUT.md. Both ways round lose nothing, whatever the words are.
+use crate::call::Shape;
+use crate::rules::{BIN_LIMIT, OPEN_LIMIT, PEAK, RUN_LIMIT};
+use crate::signed::{Cell, Row, Run};
+
+/// What a word is.
+#[derive(Clone, Copy, Debug, PartialEq, Eq)]
+pub enum Kind {
+    Time,
+    Flag,
+    Command,
+    Bank,
+    DataBin,
+    Stamp,
+    State,
+    Entry,
+    /// The ticks of a row, which may hold so many.
+    Ticks(u64),
+    /// A count of the row whose ticks stand at this word.
+    Count(usize),
+    /// A stored sum of the row whose ticks stand at this word.
+    Sum(usize),
+}
+
+/// Passes over the words of a run in their order, and gives the next word to each of its fields or takes it from it.
+trait Walk {
+    fn word(&mut self, field: &mut u64, kind: Kind);
+    /// The number of words passed.
+    fn at(&self) -> usize;
+}
+
+fn walk_row(walk: &mut impl Walk, row: &mut Row, limit: u64) {
+    let ticks_at = walk.at();
+    walk.word(&mut row.ticks, Kind::Ticks(limit));
+    walk.word(&mut row.edge, Kind::Count(ticks_at));
+    walk.word(&mut row.centre, Kind::Count(ticks_at));
+    let bias = row.ticks.wrapping_mul(PEAK);
+    for sum in &mut row.sums {
+        let mut stored = (*sum as u64).wrapping_add(bias);
+        walk.word(&mut stored, Kind::Sum(ticks_at));
+        *sum = stored.wrapping_sub(bias) as i64;
+    }
+}
+
+/// An entry is (sample + 8) + 16 × phase, and 0 for sample + 8 where the byte has 8h: its bit 3 the other way round.
+fn walk_register(walk: &mut impl Walk, register: &mut [u64]) {
+    for byte in register {
+        let mut entry = *byte ^ 8;
+        walk.word(&mut entry, Kind::Entry);
+        *byte = entry ^ 8;
+    }
+}
+
+fn walk_cell(walk: &mut impl Walk, cell: &mut Cell) {
+    walk.word(&mut cell.held.occupied, Kind::Flag);
+    walk.word(&mut cell.held.command, Kind::Command);
+    walk.word(&mut cell.held.bank, Kind::Bank);
+    walk.word(&mut cell.held.bin, Kind::DataBin);
+    walk.word(&mut cell.open_stamp, Kind::Stamp);
+    walk.word(&mut cell.held.stamp, Kind::Stamp);
+    walk_row(walk, &mut cell.open, OPEN_LIMIT);
+    walk_row(walk, &mut cell.held.row, OPEN_LIMIT);
+    for loss in &mut cell.losses {
+        walk_row(walk, loss, RUN_LIMIT);
+    }
+    walk_register(walk, &mut cell.x);
+    walk_register(walk, &mut cell.y);
+    for bin in &mut cell.bins {
+        walk.word(&mut bin.state, Kind::State);
+        walk.word(&mut bin.stamp, Kind::Stamp);
+        walk_row(walk, &mut bin.row, BIN_LIMIT);
+    }
+}
+
+fn walk_run(walk: &mut impl Walk, run: &mut Run) {
+    walk.word(&mut run.t, Kind::Time);
+    for cell in &mut run.cells {
+        walk_cell(walk, cell);
+    }
+}
+
+struct Store(Vec<u64>);
+
+impl Walk for Store {
+    fn word(&mut self, field: &mut u64, _: Kind) {
+        self.0.push(*field);
+    }
+
+    fn at(&self) -> usize {
+        self.0.len()
+    }
+}
+
+struct Load<'a> {
+    words: &'a [u64],
+    at: usize,
+}
+
+impl Walk for Load<'_> {
+    fn word(&mut self, field: &mut u64, _: Kind) {
+        *field = self.words[self.at];
+        self.at += 1;
+    }
+
+    fn at(&self) -> usize {
+        self.at
+    }
+}
+
+struct Kinds(Vec<Kind>);
+
+impl Walk for Kinds {
+    fn word(&mut self, _: &mut u64, kind: Kind) {
+        self.0.push(kind);
+    }
+
+    fn at(&self) -> usize {
+        self.0.len()
+    }
+}
+
+/// The words of a run.
+pub fn words(run: &mut Run) -> Vec<u64> {
+    let mut store = Store(Vec::new());
+    walk_run(&mut store, run);
+    store.0
+}
+
+/// The run whose words these are.
+pub fn load(run: &mut Run, words: &[u64]) {
+    let mut load = Load { words, at: 0 };
+    walk_run(&mut load, run);
+    assert_eq!(load.at, words.len(), "words of a run");
+}
+
+/// What each word of a run is.
+pub fn kinds(shape: Shape) -> Vec<Kind> {
+    let mut kinds = Kinds(Vec::new());
+    walk_run(&mut kinds, &mut Run::new(shape));
+    kinds.0
+}

@@ -1,0 +1,113 @@
+//! Real ticks up to the limits: a full Open that is held off, and a bin that would become too wide.
+use crate::call::{agrees, Call, Reply, Shape};
+use crate::damage::never;
+use crate::driver::{fresh, perform};
+use crate::layout;
+use crate::machine::Machine;
+use crate::random::Random;
+use crate::rules::OPEN_LIMIT;
+use crate::signed::Run;
+use crate::tally::Tally;
+
+struct Three {
+    mem: Vec<u64>,
+    model: Run,
+    machine: Machine,
+    tally: Tally,
+}
+
+impl Three {
+    fn new(shape: Shape) -> Three {
+        let (mem, model, machine) = (fresh(&shape), Run::new(shape), Machine::new(shape));
+        Three { mem, model, machine, tally: Tally::default() }
+    }
+
+    fn perform(&mut self, call: &Call) -> Reply {
+        let reply = perform(&self.model.shape.numbers(), &mut self.mem, call);
+        for expected in [self.model.perform(call, never), self.machine.perform(call)] {
+            assert!(agrees(&reply, &expected), "{call:?}: {reply:?}, expected {expected:?}");
+        }
+        self.tally.count(call, &reply);
+        reply
+    }
+
+    fn compare(&mut self) {
+        assert!(self.machine.summed() == self.model, "sums of the two models");
+        assert!(self.mem == layout::words(&mut self.model), "words of memory");
+    }
+
+    /// So many ticks of every cell; answers how many cells were held off, all ticks together.
+    fn ticks(&mut self, random: &mut Random, count: u64) -> u64 {
+        let mut held_off = 0;
+        for _ in 0..count {
+            let samples = random.bytes(2 * self.model.shape.cells as usize);
+            match self.perform(&Call::Tick { samples }) {
+                Reply::Number(cells) => held_off += cells,
+                other => panic!("a tick: {other:?}"),
+            }
+        }
+        held_off
+    }
+
+    fn dump(&mut self, cell: u64, command: u64) -> Reply {
+        self.perform(&Call::Dump { cell, command, bank: 0, phase: 0, block: 0 })
+    }
+}
+
+fn shape(cells: u64, lags: u64) -> Shape {
+    Shape { cells, lags, bins: 1, blocks: 1, start: 0, rate: 1000, second: 5 }
+}
+
+#[test]
+fn holdoff_with_real_ticks() {
+    let mut random = Random::new(1);
+    let mut three = Three::new(shape(2, 4));
+    assert_eq!(three.ticks(&mut random, 100), 0);
+    assert_eq!(three.dump(1, 0b100), Reply::Number(1));
+    assert_eq!(three.ticks(&mut random, OPEN_LIMIT - 100), 0);
+    let full = three.perform(&Call::Forecast { cell: 0 });
+    assert_eq!(full, Reply::Forecast(0));
+    // Cell 0 is held off from here on, cell 1 after 100 ticks more.
+    assert_eq!(three.ticks(&mut random, 100), 100);
+    three.compare();
+    assert_eq!(three.ticks(&mut random, 30), 60);
+    three.compare();
+    assert_eq!(three.dump(0, 0b010), Reply::Number(0));
+    assert_eq!(three.ticks(&mut random, 20), 20);
+    for cell in 0..2 {
+        for lag in 0..4 {
+            three.perform(&Call::Reading { cell, lag, loss: 6, room: [2, 3] });
+        }
+    }
+    assert_eq!(three.perform(&Call::Integrate { cell: 0 }), Reply::Number(0));
+    three.perform(&Call::Emit { cell: 0, bank: 0, bin: 0, room: 66 });
+    three.compare();
+    three.tally.print("hold-off with real ticks");
+    three.tally.met("tick", &["held off"]);
+}
+
+#[test]
+fn a_wide_bin_with_real_ticks() {
+    let mut random = Random::new(2);
+    let mut three = Three::new(shape(1, 2));
+    for part in 1..=32 {
+        let ticks = if part == 32 { OPEN_LIMIT - 1 } else { OPEN_LIMIT };
+        assert_eq!(three.ticks(&mut random, ticks), 0);
+        assert_eq!(three.dump(0, 0b001), Reply::Number(0));
+        assert_eq!(three.perform(&Call::Integrate { cell: 0 }), Reply::Number(0));
+    }
+    // The bin has 16,777,215 ticks. An empty set still joins it, one tick does not.
+    three.compare();
+    assert_eq!(three.dump(0, 0b001), Reply::Number(0));
+    assert_eq!(three.perform(&Call::Integrate { cell: 0 }), Reply::Number(0));
+    for command in [0b001, 0b010] {
+        three.ticks(&mut random, 1);
+        assert_eq!(three.dump(0, command), Reply::Number(0));
+        assert_eq!(three.perform(&Call::Integrate { cell: 0 }), Reply::Number(5));
+    }
+    three.compare();
+    three.perform(&Call::Emit { cell: 0, bank: 0, bin: 0, room: 50 });
+    three.perform(&Call::Reading { cell: 0, lag: 1, loss: 5, room: [2, 3] });
+    three.compare();
+    three.tally.print("a wide bin with real ticks");
+}

@@ -1,0 +1,132 @@
+//! Lists of random calls from a fresh run on.
+use lta::ffi;
+
+use crate::call::{agrees, Call, Reply, Shape};
+use crate::damage::never;
+use crate::driver::{fresh, outcome, perform};
+use crate::generator::{self, Generator};
+use crate::layout;
+use crate::machine::Machine;
+use crate::random::Random;
+use crate::rules::host_refusal;
+use crate::signed::Run;
+use crate::tally::Tally;
+
+const LONG_LISTS: u64 = 2_600;
+const LONG_CALLS: usize = 4_000;
+const SHORT_LISTS: u64 = 600;
+const SHORT_CALLS: usize = 400;
+
+/// The same list of calls for the engine and for the signed model.
+struct Pair {
+    generator: Generator,
+    numbers: [u64; 7],
+    mem: Vec<u64>,
+    model: Run,
+}
+
+impl Pair {
+    fn new(random: Random, shape: Shape) -> Pair {
+        let mut model = Run::new(shape);
+        let mem = fresh(&shape);
+        assert!(mem == layout::words(&mut model), "a fresh run of {shape:?}");
+        let generator = Generator::new(random, shape);
+        Pair { generator, numbers: shape.numbers(), mem, model }
+    }
+
+    /// A call of the engine with another shape or length, which is refused and changes nothing.
+    fn refused_host(&mut self, call: &Call, tally: &mut Tally) {
+        let words = self.mem.len();
+        let (numbers, length) = self.generator.wrong_host(words);
+        let expected = host_refusal(&numbers, length).expect("1 or 2");
+        let spare = self.generator.random.next();
+        self.mem.push(spare);
+        let reply = perform(&numbers, &mut self.mem[..length], call);
+        assert_eq!(reply, Reply::Refused(expected), "{call:?} with {numbers:?}, {length} words");
+        let setup = outcome(ffi::setup(&numbers, &mut self.mem[..length]));
+        assert_eq!(setup, Err(expected), "setup with {numbers:?}, {length} words");
+        assert_eq!(self.mem.pop(), Some(spare), "a word behind the memory");
+        tally.count(call, &reply);
+    }
+
+    /// A call of both; the engine's reply must be one that the model allows.
+    fn step(&mut self, tally: &mut Tally) -> (Call, Reply) {
+        let call = self.generator.call();
+        if self.generator.random.once_in(64) {
+            self.refused_host(&call, tally);
+        }
+        let reply = perform(&self.numbers, &mut self.mem, &call);
+        let expected = self.model.perform(&call, never);
+        let shape = self.model.shape;
+        assert!(agrees(&reply, &expected), "{call:?} of {shape:?}: {reply:?}, expected {expected:?}");
+        tally.count(&call, &reply);
+        (call, reply)
+    }
+
+    fn compare_words(&mut self) {
+        let expected = layout::words(&mut self.model);
+        if let Some(at) = (0..expected.len()).find(|&at| self.mem[at] != expected[at]) {
+            let kind = layout::kinds(self.model.shape)[at];
+            let (found, wanted) = (self.mem[at], expected[at]);
+            panic!("word {at}, {kind:?}, of {:?}: {found}, expected {wanted}", self.model.shape);
+        }
+    }
+}
+
+#[test]
+fn ten_million_calls() {
+    let mut tally = Tally::default();
+    let mut words: u64 = 0;
+    for list in 0..LONG_LISTS {
+        let mut random = Random::new(list);
+        let shape = generator::shape(&mut random);
+        let mut pair = Pair::new(random, shape);
+        let interval = 200.max(pair.mem.len() / 20);
+        for call in 1..=LONG_CALLS {
+            pair.step(&mut tally);
+            if call % interval == 0 || call == LONG_CALLS {
+                pair.compare_words();
+                words += pair.mem.len() as u64;
+            }
+        }
+    }
+    tally.print("long lists");
+    println!("  {LONG_LISTS} shapes, {words} words of memory compared");
+    assert!(tally.total() >= 10_000_000);
+    check_outcomes(&tally);
+}
+
+/// Everything has happened that can in a list without limits reached or memory forged.
+fn check_outcomes(tally: &Tally) {
+    tally.met("tick", &["accepted", "refusal 1", "refusal 2", "refusal 3"]);
+    tally.met("dump", &["answer 0", "answer 1", "answer 2", "answer 7"]);
+    tally.met("dump", &["refusal 1", "refusal 2", "refusal 5", "refusal 6", "refusal 7"]);
+    tally.met("integrate", &["answer 0", "answer 3", "answer 4"]);
+    tally.met("integrate", &["refusal 1", "refusal 2", "refusal 5", "refusal 8"]);
+    tally.met("emit", &["accepted", "refusal 1", "refusal 2", "refusal 5", "refusal 7"]);
+    tally.met("emit", &["refusal 9", "refusal 10"]);
+    tally.met("reading", &["accepted", "refusal 1", "refusal 2", "refusal 5"]);
+    tally.met("reading", &["refusal 10", "refusal 12"]);
+    tally.met("forecast", &["accepted", "refusal 1", "refusal 2", "refusal 5"]);
+}
+
+#[test]
+fn the_plain_machine_on_short_lists() {
+    let mut tally = Tally::default();
+    for list in 0..SHORT_LISTS {
+        let mut random = Random::new(1_000_000 + list);
+        let shape = generator::small_shape(&mut random);
+        let mut pair = Pair::new(random, shape);
+        let mut machine = Machine::new(shape);
+        for at in 1..=SHORT_CALLS {
+            let (call, reply) = pair.step(&mut tally);
+            let expected = machine.perform(&call);
+            assert!(agrees(&reply, &expected), "{call:?} of {shape:?}: {reply:?}, expected {expected:?}");
+            if at % 40 == 0 {
+                assert!(machine.summed() == pair.model, "sums of {shape:?} after {at} calls");
+                pair.compare_words();
+            }
+        }
+    }
+    tally.print("short lists, with the plain machine");
+}

@@ -1,0 +1,76 @@
+//! Refusals that follow from the arguments of a call alone, and document 01's numbers.
+use crate::call::{Call, Shape};
+
+pub const OPEN_LIMIT: u64 = 524_288;
+pub const BIN_LIMIT: u64 = 16_777_215;
+pub const RUN_LIMIT: u64 = 2_147_483_648;
+pub const PEAK: u64 = 98;
+
+pub const FREE: u64 = 0;
+pub const FILLING: u64 = 1;
+pub const READY: u64 = 2;
+
+pub const SAVE: u64 = 0b000;
+pub const LAST: u64 = 0b010;
+pub const DISCARD: u64 = 0b100;
+pub const IDLE: u64 = 0b111;
+
+/// Refusal 1: is the count of lags out of its limits?
+pub fn bad_lags(lags: u64) -> bool {
+    !(2..=128).contains(&lags) || lags % 2 != 0
+}
+
+fn bad_shape(shape: &[u64]) -> bool {
+    let &[cells, lags, bins, blocks, start, rate, second] = shape else {
+        return true;
+    };
+    let ends = u128::from(start) + u128::from(blocks);
+    !(1..=16).contains(&cells)
+        || bad_lags(lags)
+        || !(1..=1000).contains(&bins)
+        || !(1..=256).contains(&blocks)
+        || ends > 256
+        || !(1..=256_000_000).contains(&rate)
+        || second > 2_147_483_647
+}
+
+/// docs/LAYOUT.md's formula.
+pub fn words_needed(shape: &Shape) -> usize {
+    let (c, n, b) = (shape.cells as usize, shape.lags as usize, shape.bins as usize);
+    1 + c * (32 + 17 * n + 10 * b + 4 * b * n)
+}
+
+/// What the host is told of the seven numbers and of the words lent, if anything: 1, then 2.
+pub fn host_refusal(shape: &[u64], words: usize) -> Option<u32> {
+    if bad_shape(shape) {
+        return Some(1);
+    }
+    let &[cells, lags, bins, blocks, start, rate, second] = shape else {
+        return Some(1);
+    };
+    let shape = Shape { cells, lags, bins, blocks, start, rate, second };
+    (words != words_needed(&shape)).then_some(2)
+}
+
+fn breaks_bin_rule(shape: &Shape, phase: u64, block: u64) -> bool {
+    let past = (u128::from(phase) + 1) * u128::from(shape.blocks);
+    block < shape.start || block >= shape.start + shape.blocks || past > u128::from(shape.bins)
+}
+
+/// The first refusal of the call's arguments alone, 3 and 5 to 12 without 8 to 11.
+pub fn argument_refusal(shape: &Shape, call: &Call) -> Option<u32> {
+    let no_cell = |cell: u64| cell >= shape.cells;
+    match *call {
+        Call::Tick { ref samples } => (samples.len() as u64 != 2 * shape.cells).then_some(3),
+        Call::Dump { cell, .. } if no_cell(cell) => Some(5),
+        Call::Dump { command: 3 | 5 | 6 | 8.., .. } => Some(6),
+        Call::Dump { bank, phase, block, .. } => {
+            (bank > 1 || breaks_bin_rule(shape, phase, block)).then_some(7)
+        }
+        Call::Integrate { cell } | Call::Forecast { cell } => no_cell(cell).then_some(5),
+        Call::Emit { cell, .. } if no_cell(cell) => Some(5),
+        Call::Emit { bank, bin, .. } => (bank > 1 || bin >= shape.bins).then_some(7),
+        Call::Reading { cell, .. } if no_cell(cell) => Some(5),
+        Call::Reading { lag, loss, .. } => (lag >= shape.lags || !(1..=6).contains(&loss)).then_some(12),
+    }
+}
