@@ -118,7 +118,7 @@ pub fn dump_sound(cell: &[u64], n: usize, bins: usize, t: u64, command: u64) -> 
     ensures { λ r. ⌜ r ≡ dumpSound n bins t command (placesOf n bins (now (cell .entry))) ⌝ }
 {
     if !dump_parts(cell, n, bins, t) {
-        return false;
+        return false; // damaged
     }
     let ticks = cell[OPEN_ROW];
     if command == IDLE {

@@ -123,7 +123,7 @@ fn write_verdict(n: u64, f: Fields, lags: &[i32], room: usize) -> Verdict
         return Verdict::Refused(Refusal::BadField);
     }
     if lags.len() as u64 != 2 * n {
-        return Verdict::Refused(Refusal::BadField);
+        return Verdict::Refused(Refusal::BadField); // not 2N lag numbers
     }
     if !lags_within(lags, PEAK * f.ticks) {
         return Verdict::Refused(Refusal::BadField);

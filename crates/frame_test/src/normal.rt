@@ -33,7 +33,7 @@ fn with_count(t: Tally, n: u64, i: u64, code: u64, says: u64) -> Tally {
     row(t, told == want, want == 12)
 }
 
-// "if that count is 0, no data"; where it is 1, the lag is there.
+// "if that count is 0", no data; where it is 1, the lag is there.
 pub fn lag(t: Tally, n: u64, i: u64) -> Tally {
     let a = with_count(t, n, i, 0x6_0000_0000, NO_DATA);
     with_count(a, n, i, 0x6_0000_0001, 0)

@@ -1,21 +1,18 @@
 -- The words of a bin as the frame's writer takes them.
-use mathlib.Core.Path.{_≡_, ap, subst, _∙_}
-use mathlib.Core.Bool.{_&&_}
+use mathlib.Core.Path.{_≡_, sym, ap, subst, _∙_}
 use mathlib.Core.List.{List}
 use Prim.Native.Nat.{ℕ, _+_, _*_, _-_, _<_}
 use native.Mathlib.Omega.{arith}
-use lib.Dec.{leb, ltb, eqb}
 use lib.ListN.{length, getD, take, drop, length-drop}
 use lib.Seq.{getD-drop, drop-drop, take-all}
-use borrow.Author.Tests.{leb-true, ltb-true}
+use borrow.Author.Tests.{leb-true}
 use Rattle.lta_spec.specs.Words.{part}
-use Rattle.lta_spec.specs.Shape.{runLimit, binLimit}
+use Rattle.lta_spec.specs.Shape.{binLimit}
 use Rattle.lta_spec.specs.Size.{rowWords, binWords}
 use Rattle.lta_spec.specs.Layout.{word, block, pair, fields}
-use Rattle.lta_spec.specs.Place.{Stamped, Bin, ready}
+use Rattle.lta_spec.specs.Place.{Stamped, Bin}
 use Rattle.lta_spec.specs.Row.{rowOk}
-use Rattle.lta_spec.specs.Frame.{accumulated, frameLength}
-use Rattle.lta_spec.specs.Call.{bankOk, binIndex}
+use Rattle.lta_spec.specs.Call.{binIndex}
 use Rattle.lta_spec.specs.Call.Call.{emit}
 use Rattle.lta_spec.specs.Engine.{Row, stamped, binAt}
 use Rattle.lta_spec.specs.Damage as D
@@ -23,7 +20,8 @@ use Rattle.lta_spec.specs.Memory.{binL}
 use Rattle.lta_spec.specs.Step as S
 use Rattle.lta_spec.specs.declared.Shape.{Shape}
 use Rattle.lta_spec.specs.declared.Verdict.the-variants.{Accepted}
-use Rattle.lta_spec.proofs.TestLaws.{and-both, pass}
+use Rattle.lta_spec.proofs.TestLaws.{and-both}
+use Rattle.lta_spec.proofs.EmittedBack.{passed}
 use Rattle.lta_spec.proofs.WordLaws.{lent}
 use Rattle.lta_spec.proofs.MemoryLaws.{bin-law, bin-width}
 use Rattle.layout.specs.Lays.{Lays}
@@ -54,26 +52,17 @@ module _ (n : ℕ) {ws : List ℕ} {b : Bin Row} (l : Lays (binL n) ws b) where
 -- what the tests of an emission showed
 pub emits : (s : Shape) (mem : List ℕ) (c bank bin : ℕ) (out : List ℕ)
     → Accepted ≡ S.verdict s mem (emit c bank bin out) → EmitsFrom s mem c bank bin out
+unfolding runOf
 emits s mem c bank bin out e =
-    let q = takes s mem (emit c bank bin out) e in
-    let r = runOf s mem in
-    let k = binIndex (s .bins) bank bin in
-    let x = pass (ltb c (s .cells)) _ _ (q .tests) in
-    let y = pass (bankOk bank && ltb bin (s .bins)) _ _ (x .1) in
-    let f = D.emitSound (s .lags) (r .t) k (S.cellAt s c r) in
-    let z = pass (leb (r .t) runLimit && f) _ _ (y .1) in
-    let v = pass (eqb ((binAt (s .lags) k (S.cellAt s c r)) .state) ready) _ _ (z .1) in
-    let w = pass (leb (frameLength accumulated (s .lags)) (length out)) _ _ (v .1) in
-    let named = and-both (bankOk bank) (ltb bin (s .bins)) (y .0) in
-    let sound = and-both (leb (r .t) runLimit) f (z .0) in
+    let p = passed s c bank bin mem out (sym e) in
     record {
-      hosted = q .hosted;
-      there = ltb-true c (s .cells) (x .0);
-      banked = ltb-true bank 2 (named .0);
-      numbered = ltb-true bin (s .bins) (named .1);
-      limited = leb-true (r .t) runLimit (sound .0);
-      sound = sound .1;
-      room = leb-true _ _ (w .0);
+      hosted = takes s mem (emit c bank bin out) e .hosted;
+      there = p .inCells;
+      banked = p .inBanks;
+      numbered = p .inBins;
+      limited = p .time;
+      sound = p .sound;
+      room = p .room;
     }
 
 -- the words of the bin, as code lends them from the cell's words

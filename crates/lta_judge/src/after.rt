@@ -162,7 +162,7 @@ fn adds(old: &[u64], n: u64, at: u64, x: u64, y: u64, k: u64, what: u64) -> u64 
     pair(entry(xs), entry(ys), what)
 }
 
-// What the tick adds to word j of a row, "sum + 98 × ticks".
+// What the tick adds to word j of a row; a sum is stored as sum + 98 × ticks.
 fn row_adds(old: &[u64], n: u64, at: u64, x: u64, y: u64, j: u64) -> u64 {
     let k = less(j, 3) / 2;
     let what = if j % 2 == 1 { IN_PHASE } else { QUADRATURE };

@@ -20,7 +20,7 @@ use lta_rig::store::get;
 use lta_rig::store::less;
 use std::num::wrapping_add_u64;
 
-// Word j of the row of a set: ticks, edge and centre count, then I and Q of each lag, "sum + 98 × ticks".
+// Word j of the row of a set: ticks, edge and centre count, then I and Q of each lag, sum + 98 × ticks.
 fn row_word(m: &[u64], c: u64, p: u64, j: u64) -> u64 {
     let ticks = members(m, c, p) % 4294967296;
     match j {

@@ -1,33 +1,39 @@
 -- Demand 3 of document 01: one theorem for every list of calls after a setup.
 use Prim.Native.Nat.{ℕ, zero, suc, _<_}
-use mathlib.Core.Path.{_≡_, refl, sym, ap, _∙_, subst}
+use mathlib.Core.Path.{_≡_, refl, sym, ap, ap₂, _∙_, subst}
 use mathlib.Core.Bool.{true}
-use mathlib.Core.List.{List, [], _∷_, append-nil, List·Memᴰ}
+use mathlib.Core.List.{List, [], _∷_, _++_, map, append-nil, append-assoc, map-append, map-map, List·Memᴰ}
 use native.Mathlib.Omega.{arith}
 use lib.ListN.{length, getD, replicate}
 use Rattle.lta_spec.specs.Shape.{shapeOk}
-use Rattle.lta_spec.specs.Place.{Stamped}
+use Rattle.lta_spec.specs.Place.{Stamped, Cell}
 use Rattle.lta_spec.specs.Machine as M
 use Rattle.lta_spec.specs.Machine.{Ticks}
+use Rattle.lta_spec.specs.Numbers.{setSums, setFrame}
 use Rattle.lta_spec.specs.MachineRun as R
+use Rattle.lta_spec.specs.Row.{rowSums}
 use Rattle.lta_spec.specs.Engine as E
 use Rattle.lta_spec.specs.Memory as W
 use Rattle.lta_spec.specs.Memory.{runL}
 use Rattle.lta_spec.specs.Step as S
-use Rattle.lta_spec.specs.Demand.{Listed, AllStand, AllKeep, machineAfter, memAfter, framesTold, machineTells}
+use Rattle.lta_spec.specs.Demand.{Listed, AllStand, AllKeep, machineAfter, memAfter, framesTold}
+use Rattle.lta_spec.specs.Demand.{machineTells, engineTells, freshMem}
 use Rattle.lta_spec.specs.Demand.{Equal, EqualStamped, EqualCell, Demand3, isTick, places, ticksBelow}
+use Rattle.lta_spec.specs.Demand.{AllRead, rows, readSums, AddUp}
 use Rattle.lta_spec.specs.Demand.Listed.{usual, odd}
 use Rattle.lta_spec.specs.declared.Shape.{Shape}
+use Rattle.lta_spec.specs.declared.Sums.{Sums}
 use Rattle.lta_spec.proofs.ShapeLaws.{shaped}
 use Rattle.lta_spec.proofs.RowLaws.{numbers, numbers-size}
-use Rattle.lta_spec.proofs.SetLaws.{stored-inPhase, stored-quadrature, stored-edge, stored-centre}
+use Rattle.lta_spec.proofs.SetLaws.{stored-inPhase, stored-quadrature, stored-edge, stored-centre, sums-told}
 use Rattle.lta_spec.proofs.Carry.{row, mapStamped, mapBin, mapCell, bin-carry, loss-carry}
 use Rattle.lta_spec.proofs.SameCell.{Same}
 use Rattle.lta_spec.proofs.SameRun.{same-at}
 use Rattle.lta_spec.proofs.Follow.{follow, start-same, loaded, sized, turned}
 use Rattle.lta_spec.proofs.Clean.{never-eleven}
-use Rattle.lta_spec.proofs.Totals.{none-below, one-below, sums-add-up}
+use Rattle.lta_spec.proofs.Totals.{none-below, one-below, sums-add-up, sets-add-up}
 use Rattle.lta_spec.proofs.Frames.{list-framed}
+use Rattle.lta_spec.proofs.ReadBack.{all-back, sums-back}
 
 -- a row is its set's numbers
 equal : (n : ℕ) (xs ys : List ℕ) (s : Ticks) → Equal n xs ys (numbers n xs ys s) s
@@ -63,6 +69,40 @@ equal-cell n B t e m s =
       losses = λ i. rw (c, loss-carry n xs ys i (m .cell)) (equal n xs ys (getD (m .cell .losses) i []));
     }
 
+-- the numbers of a related cell's rows and of its frames are those of the sets of its places
+module _ (n : ℕ) (xs ys : List ℕ) (k : ℕ) (h : k < n) where
+  abbrev sumsOf : Ticks → Sums
+  sumsOf s = setSums n xs ys s k
+
+  -- the sets of a cell's places but its frames
+  abbrev kept : Cell Ticks → List Ticks
+  kept c = c .opened .members ∷ c .held .content .members ∷ map (λ b. b .content .members) (c .bins) ++ c .losses
+
+  rows-carry : (c : Cell Ticks) → rows (mapCell (row n xs ys) c) ≡ map (row n xs ys) (kept c)
+  unfolding mapCell mapBin mapStamped
+  rows-carry c =
+      let sets = map (λ b. b .content .members) (c .bins) in
+      rw (
+        map-append (row n xs ys) sets (c .losses),
+        map-map (λ b. b .content .members) (mapBin (row n xs ys)) (c .bins),
+        map-map (row n xs ys) (λ b. b .content .members) (c .bins),
+      )
+
+  rows-told : (ls : List Ticks) → map (rowSums k) (map (row n xs ys) ls) ≡ map sumsOf ls
+  rows-told [] = refl
+  rows-told (s ∷ ls) = ap₂ (λ x r. x ∷ r) (sums-told n xs ys s k h) (rows-told ls)
+
+  places-told : (u : R.Unit) (back : List Sums) → back ≡ map (λ e. sumsOf (e .content .members)) (u .frames)
+      → map (rowSums k) (rows (mapCell (row n xs ys) (u .cell))) ++ back ≡ map sumsOf (places u)
+  places-told u back e =
+      let c = u .cell in
+      let frames = map (λ e. e .content .members) (u .frames) in
+      let sets = map (λ b. b .content .members) (c .bins) in
+      ap₂ _++_ (ap (map (rowSums k)) (rows-carry c) ∙ rows-told (kept c))
+      (e ∙ sym (map-map sumsOf (λ e. e .content .members) (u .frames)))
+      ∙ sym (map-append sumsOf (kept c) frames)
+      ∙ ap (λ l. map sumsOf (c .opened .members ∷ c .held .content .members ∷ l)) (append-assoc sets (c .losses) frames)
+
 -- other work memory is left alone
 all-keep : (cs : List Listed) → AllStand cs → AllKeep cs
 all-keep [] a = tt
@@ -85,6 +125,20 @@ demand3 sh ok cs stand =
     ap ((runL sh) .get) (f .mem) ∙ loaded sh (f .run) m (f .same) in
     let at : (c : ℕ) → c < sh .cells → Same (sh .lags) (sh .bins) (m .t) (S.unitAt sh c (f .run)) (R.unitAt sh c m) =
     λ c h. same-at _ _ (m .t) (f .run .units) (m .units) _ _ (f .same .units) c (omega (arith, f .same .cells)) in
+    let told : (c : ℕ) → List (List ℕ) = λ c. framesTold (sh .lags) c cs (engineTells sh cs (freshMem sh)) in
+    let sent : (c : ℕ) → c < sh .cells → told c ≡ map (setFrame sh c ((R.unitAt sh c m) .xs) ((R.unitAt sh c m) .ys))
+    ((R.unitAt sh c m) .frames) =
+    λ c h.
+    ap (framesTold (sh .lags) c cs) (f .tells)
+    ∙ sym (append-nil (framesTold (sh .lags) c cs (machineTells sh cs (R.start sh))))
+    ∙ list-framed sh (k .some-lags) cs stand (W.start sh) (R.start sh) (start-same sh (k .some-bins)) c h []
+    (λ gx gy. rw (none-sent sh (sh .cells) c)) [] [] in
+    let back : (c : ℕ) → (h : c < sh .cells)
+    → AllRead sh c ((R.unitAt sh c m) .xs) ((R.unitAt sh c m) .ys) (told c) ((R.unitAt sh c m) .frames) =
+    λ c h.
+    let u = R.unitAt sh c m in
+    subst (λ fs. AllRead sh c (u .xs) (u .ys) fs (u .frames)) (sym (sent c h))
+    (all-back sh ok c h (m .t) (f .same .limit) (u .xs) (u .ys) (u .frames) (at c h .good .frames)) in
     record {
       tells = f .tells;
       clean = λ t i e. never-eleven sh cs (R.start sh) t (subst (List·Memᴰ t) (f .tells) i) e;
@@ -93,12 +147,19 @@ demand3 sh ok cs stand =
       time = ap (λ r. r .t) read ∙ f .same .t;
       cells = λ c h. subst (λ r. EqualCell (sh .lags) (S.unitAt sh c r) (R.unitAt sh c m)) (sym read)
           (equal-cell _ _ (m .t) _ _ (at c h));
-      frames = λ c h.
-          ap (framesTold (sh .lags) c cs) (f .tells)
-          ∙ sym (append-nil (framesTold (sh .lags) c cs (machineTells sh cs (R.start sh))))
-          ∙ list-framed sh (k .some-lags) cs stand (W.start sh) (R.start sh) (start-same sh (k .some-bins)) c h []
-          (λ gx gy. rw (none-sent sh (sh .cells) c)) [] [];
+      frames = sent;
       once = λ c i h l. at c h .good .once (isTick i) ∙ one-below i (m .t) l;
       never = λ c i h l. at c h .good .once (isTick i) ∙ none-below i (m .t) l;
       adds-up = λ c h g. sums-add-up g (places (R.unitAt sh c m)) (ticksBelow (m .t)) (at c h .good .once);
+      read-back = back;
+      totals = λ c k h l.
+          let u = R.unitAt sh c m in
+          let n = sh .lags in
+          let parts =
+          ap (λ z. map (rowSums k) (rows z) ++ map (readSums n k) (told c))
+          (ap (S.cellAt sh c) read ∙ at c h .cell [] [])
+          ∙ places-told n (u .xs) (u .ys) k l u _
+          (sums-back sh ok c h (m .t) (f .same .limit) (u .xs) (u .ys) k l (told c) (u .frames) (back c h)) in
+          subst (λ p. AddUp p (setSums n (u .xs) (u .ys) (ticksBelow (m .t)) k)) (sym parts)
+          (sets-add-up n (u .xs) (u .ys) k (places u) (ticksBelow (m .t)) (at c h .good .once));
     }

@@ -1,10 +1,11 @@
--- The edges P1 to P12 of document 01. P1 runs the script's calls through the plain machine and through the engine on
--- work memory.
-use Prim.Native.Nat.{ℕ, _+_}
+-- The edges P1 to P12 of document 01. P1 and the worked run take their calls through the plain machine and through the
+-- engine on work memory.
+use Prim.Native.Nat.{ℕ, zero, suc, _+_}
 use mathlib.Core.Path.{_≡_, refl}
-use mathlib.Core.Bool.{true, false}
+use mathlib.Core.Bool.{Bool, true, false}
 use native.Mathlib.Omega.{arith}
-use lib.Dec.{ltb}
+use lib.Dec.{ltb, eqb}
+use lib.Seq.{getD-set-same}
 use borrow.Author.Tests.{lt-ltb, le-ltb}
 use Rattle.lta_spec.specs.Shape.{lagCountOk, shapeOk, openLimit, binLimit}
 use Rattle.lta_spec.specs.Size.{memoryWords, hostTests}
@@ -18,9 +19,13 @@ use Rattle.lta_spec.specs.Tick.{
   inPhaseAt,
   quadratureAt,
 }
-use Rattle.lta_spec.specs.Frame.{sealed, frameOf, header}
-use Rattle.lta_spec.specs.Call.{commandOk, dataBinOk, emittedFields}
+use Rattle.lta_spec.specs.Words.{part}
+use Rattle.lta_spec.specs.Place.{Label, Cell}
+use Rattle.lta_spec.specs.Frame.{sealed, frameOf, header, fieldsOf, fixedOk, fieldsOk}
+use Rattle.lta_spec.specs.FrameCalls.{marked, summed, ruled, normalVerdict}
+use Rattle.lta_spec.specs.Call.{discard, commandOk, dataBinOk, emittedFields}
 use Rattle.lta_spec.specs.Machine as M
+use Rattle.lta_spec.specs.Machine.{Ticks}
 use Rattle.lta_spec.specs.Numbers as N
 use Rattle.lta_spec.specs.MachineRun as R
 use Rattle.lta_spec.specs.Row.{tickRow, rowOk, fromWord}
@@ -30,18 +35,21 @@ use Rattle.lta_spec.specs.Layout.{word, block, pair, many, fields}
 use Rattle.lta_spec.specs.Memory.{binL, unitL, runL, start}
 use Rattle.lta_spec.specs.Step as S
 use Rattle.lta_spec.specs.Demand.{machineTells, engineTells, freshMem}
+use Rattle.lta_spec.specs.WorkedRun.{workedShape, workedRun, callsOf, toldBy}
 use Rattle.lta_spec.specs.Edges.{Edges, scriptShape, script, scriptTold}
 
-machine-told : machineTells scriptShape script (R.start scriptShape) ≡ scriptTold
+machine-told : (machineTells scriptShape script (R.start scriptShape) ≡ scriptTold)
+    × (machineTells workedShape (callsOf workedRun) (R.start workedShape) ≡ toldBy workedRun)
 unfolding
     lagCountOk shapeOk memoryWords hostTests fromByte product weight inPhase quadrature validAt inPhaseAt
     quadratureAt sealed frameOf header commandOk dataBinOk emittedFields M.lose M.hasRoom M.tickBy M.tickCell
     M.loseOpen M.holdOpen M.dumpBy M.dumpCell M.release M.stateAfter M.stampAfter M.integrateBy M.binAt
     M.integrateAt M.integrateCell M.emptyBin N.upTo N.inPhaseSum N.quadratureSum N.validCount N.setFrame
     R.verdict R.tickUnits R.heldOff R.withCell R.emitted R.withFrame R.accepted R.step machineTells
-machine-told = refl
+machine-told = (refl, refl)
 
-engine-told : engineTells scriptShape script (freshMem scriptShape) ≡ scriptTold
+engine-told : (engineTells scriptShape script (freshMem scriptShape) ≡ scriptTold)
+    × (engineTells workedShape (callsOf workedRun) (freshMem workedShape) ≡ toldBy workedRun)
 unfolding
     lagCountOk shapeOk memoryWords hostTests product weight inPhase quadrature validAt inPhaseAt quadratureAt
     sealed frameOf header commandOk dataBinOk emittedFields tickRow rowOk fromWord E.lose E.binAt E.hasRoom
@@ -49,7 +57,7 @@ unfolding
     E.integrateBy E.integrateAt E.integrateCell E.emptyBin D.lossesOk D.tickSound D.dumpHolds D.dumpParts
     D.dumpSound D.integrateHolds D.integrateBinSound D.integrateSound D.emitSound word block pair many fields
     binL unitL runL S.unitsSound S.tickUnits S.heldOff S.withCell S.rowFrame S.accepted S.verdict S.step engineTells
-engine-told = refl
+engine-told = (refl, refl)
 
 -- the two sides of a bin's ceiling
 narrow : (a b : ℕ) → a ≡ 16777214 → b ≡ 1 → ltb binLimit (a + b) ≡ false
@@ -64,31 +72,71 @@ room a e = lt-ltb a openLimit (omega arith)
 noRoom : (a : ℕ) → a ≡ 524288 → ltb a openLimit ≡ false
 noRoom a e = le-ltb a openLimit (omega arith)
 
+-- the forecast with one tick left, and with none
+one-left : (ticks : ℕ) → S.Foreseen 524287 ticks → ticks ≡ 1
+one-left zero f = omega (arith, f .honest refl)
+one-left (suc n) f = omega (arith, f .within)
+
+none-left : (ticks : ℕ) → S.Foreseen 524288 ticks → ticks ≡ 0
+none-left ticks f = omega (arith, f .within)
+
+-- a dump other than 111 stamps Open with t
+dumped : (dropped occupied : Bool) (l : Label) (t : ℕ) (c : Cell Ticks)
+    → (M.dumpBy false dropped occupied l t c) .cell .opened .stamp ≡ t
+unfolding M.dumpBy M.loseOpen M.holdOpen
+dumped true occupied l t c = refl
+dumped false true l t c = refl
+dumped false false l t c = refl
+
 pub edges : Edges
 unfolding
-    weight dataBinOk M.tickCell M.tickBy M.hasRoom E.tickBy E.hasRoom M.integrateAt M.integrateBy M.stateAfter
-    M.stampAfter
-    E.integrateAt E.integrateBy
+    fromByte product weight inPhase quadrature dataBinOk M.tickCell M.tickBy M.hasRoom E.tickBy E.hasRoom
+    M.integrateAt M.integrateBy M.stateAfter M.stampAfter E.integrateAt E.integrateBy M.dumpBy M.dumpCell M.release
+    M.binAt M.emptyBin lagCountOk normalVerdict marked summed ruled fieldsOf fixedOk fieldsOk part
 edges =
     record {
-      p1-machine = machine-told;
-      p1-engine = engine-told;
+      p1-machine = machine-told .0;
+      p1-engine = engine-told .0;
+      worked-machine = machine-told .1;
+      worked-engine = engine-told .1;
+      worked-bytes = refl;
       p2-lag0 = (refl, refl);
       p2-lag1 = (refl, refl);
       p3 = (refl, refl);
+      p3-ahead = (refl, refl);
+      p3-behind = (refl, refl);
+      p3-one-ahead = (refl, refl);
+      p3-one-behind = (refl, refl);
       p4 = refl;
       p5 = (refl, refl);
       p6 = refl;
       p7 = refl;
+      first-block = (refl, refl);
+      last-block = (refl, refl);
+      bin-order = refl;
+      last-tick = refl;
+      run-full = refl;
+      refusal-numbers = refl;
+      first-applies = refl;
+      loss-numbers = refl;
+      loss-places = refl;
       p8-machine = λ t c h. rw (room _ h) (refl, refl);
       p8-engine = λ n row c h. rw (room _ h) (refl, refl);
       p9-machine = λ t c h. rw (noRoom _ h) (refl, refl);
       p9-engine = λ n row c h. rw (noRoom _ h) (refl, refl);
+      forecast-one = (record { within = omega arith; honest = λ e. omega arith }, one-left);
+      forecast-none = (record { within = omega arith; honest = λ e. omega arith }, none-left);
+      dump-stamp = λ l t c h. rw h (dumped (eqb (l .command) discard) (eqb (c .held .occupied) 1) l t c);
+      idle-stamp = λ l t c h. rw h;
+      bin-stamp = λ new old. (refl, refl);
+      emptied-held = λ k b ls c. (refl, refl);
+      emptied-bin = λ k c h. getD-set-same (c .bins) k _ M.freeBin h;
       p10-machine = λ k b c a o p. rw (a .isFilling, a .adds, narrow _ _ o p);
       p10-joins = λ k b c a o p. rw (a .isFilling, a .adds, narrow _ _ o p);
       p10-engine = λ n k b c a o p. rw (a .isFilling, a .adds, narrow _ _ o p);
       p11-machine = λ k b c a o p. rw (a .isFilling, a .adds, wide _ _ o p);
       p11-lost = λ k b c a o p. rw (a .isFilling, a .adds, wide _ _ o p);
       p11-engine = λ n k b c a o p. rw (a .isFilling, a .adds, wide _ _ o p);
+      normalised = refl;
       p12 = refl;
     }

@@ -239,6 +239,7 @@ fresh-same sh some =
                   over-places (tally f) (R.freshUnit sh),
                   over-replicate (λ b. tally f (b .content .members)) (2 * B) M.freeBin refl,
                 );
+            frames = tt;
           };
     }
 

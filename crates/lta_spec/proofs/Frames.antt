@@ -8,7 +8,7 @@ use native.Mathlib.Nat.{not-suc-le-zero, le-of-suc-le-suc}
 use native.Mathlib.Omega.{arith}
 use lib.Dec.{ltb, leb, eqb}
 use lib.ListN.{length, getD, set, take, drop, length-map}
-use lib.Seq.{append-snoc, getD-set-same, getD-set-other, take-at}
+use lib.Seq.{append-snoc, getD-set-same, getD-set-other}
 use borrow.Author.Tests.{leb-true, eqb-true, eqb-false}
 use Rattle.lta_spec.specs.Refusals.{firstOf, judged}
 use Rattle.lta_spec.specs.Size.{memoryWords}
@@ -30,9 +30,9 @@ use Rattle.lta_spec.specs.Demand.Listed.{usual, odd}
 use Rattle.lta_spec.specs.declared.Shape.{Shape}
 use Rattle.lta_spec.specs.declared.Verdict.{Verdict}
 use Rattle.lta_spec.specs.declared.Verdict.the-variants.{Accepted, Refused}
-use Rattle.lta_spec.proofs.WordLaws.{splice-eq}
 use Rattle.lta_spec.proofs.TestLaws.{pass}
 use Rattle.lta_spec.proofs.FrameLaws.{length-frame}
+use Rattle.lta_spec.proofs.EmittedBack.{front}
 use Rattle.lta_spec.proofs.SameRun.{SameRun, frame-same}
 use Rattle.lta_spec.proofs.Follow.{usual-same, accepts, turned}
 
@@ -52,10 +52,6 @@ frame-length sh c xs ys e =
     let zs = lagSums (sh .lags) xs ys (e .content .members) (sh .lags) 0 in
     length-frame _ (lagWords zs)
     ∙ omega (arith, length-map zs numberWord, lags-length (sh .lags) xs ys (e .content .members) (sh .lags) 0)
-
--- what is written at the start of a buffer with room is what stands there
-front : (out fs : List ℕ) (k : ℕ) → length fs ≡ k → k ≤ length out → take k (splice out 0 fs) ≡ fs
-front out fs k e h = rw (splice-eq out 0 fs (omega arith)) (take-at fs _ k e)
 
 -- a tick's bytes join a unit's
 tick-at : (t : ℕ) (samples : List ℕ) (us : List R.Unit) (c : ℕ) (d : R.Unit) → c < length us

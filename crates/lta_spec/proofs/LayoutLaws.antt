@@ -2,7 +2,7 @@
 use Prim.Native.Nat.{ℕ, zero, suc, _+_, _*_, _≤_, _<_}
 use mathlib.Core.Path.{_≡_, refl, sym, ap, ap₂, _∙_, subst}
 use mathlib.Core.List.{List, [], _∷_, _++_, append-assoc}
-use native.Mathlib.Nat.{suc-mul, zero-mul}
+use native.Mathlib.Nat.{suc-mul, zero-mul, not-suc-le-zero, le-of-suc-le-suc}
 use native.Mathlib.Omega.{arith}
 use lib.ListN.{length, getD, set, take, drop, length-append, length-drop}
 use lib.Seq.{take-append-add, take-at, drop-at, length-take-le, take-add, drop-drop}
@@ -75,6 +75,11 @@ pair-law {A} {B} {a} {b} {P} {Q} p q =
 abbrev pub All : {A : Type 0} → (A → Type 0) → List A → Type 0
 All P [] = Prim.Unit {0}
 All P (x ∷ xs) = P x × All P xs
+
+pub all-get : {A : Type 0} (P : A → Type 0) (xs : List A) (d : A) → All P xs → (i : ℕ) → i < length xs → P (getD xs i d)
+all-get P [] d a i h = absurd (not-suc-le-zero h)
+all-get P (x ∷ xs) d a zero h = a .0
+all-get P (x ∷ xs) d a (suc i) h = all-get P xs d (a .1) i (le-of-suc-le-suc h)
 
 -- a list of n values, each Ok
 abbrev pub Each : {A : Type 0} → ℕ → (A → Type 0) → List A → Type 0

@@ -1,5 +1,5 @@
--- What follows from the definitions of specs/: laws for the proofs of the other crates, the two round trips of a
--- frame, and the edges P1 to P12.
+-- What follows from the definitions of specs/: laws for the proofs of the other crates, and the five statements of
+-- specs/: Encoding, RoundTrip (in EmittedBack), Demand, Edges and AnswerOrder.
 pub mod WordLaws
 pub mod TestLaws
 pub mod ShapeLaws
@@ -9,7 +9,11 @@ pub mod RoundTrips
 pub mod Exact
 pub mod TickLaws
 pub mod RowLaws
+pub mod Encoding
 pub mod SetLaws
+pub mod LayoutLaws
+pub mod MemoryLaws
+pub mod EmittedBack
 pub mod Carry
 pub mod Conserve
 pub mod Sound
@@ -20,7 +24,7 @@ pub mod Follow
 pub mod Clean
 pub mod Totals
 pub mod Frames
+pub mod ReadBack
 pub mod Demand
-pub mod LayoutLaws
-pub mod MemoryLaws
 pub mod Edges
+pub mod AnswerOrder

@@ -50,7 +50,7 @@ use Rattle.lta_spec.specs.declared.Fields.{Fields}
 use Rattle.lta_spec.specs.declared.Refusal.the-variants.{NoLag}
 use Rattle.lta_spec.specs.declared.Verdict.the-variants as verdict
 use Rattle.lta_spec.specs.Answer.Answer.{fields}
-use Rattle.lta_spec.specs.RoundTrip.{RoundTrip}
+use Rattle.lta_spec.specs.RoundTrip.{lagsRead}
 use Rattle.lta_spec.proofs.WordLaws.{length-part, part-splice-same}
 use Rattle.lta_spec.proofs.TestLaws.{and-both, and-le, pass, pass-both, first-append}
 use Rattle.lta_spec.proofs.ByteLaws.{
@@ -118,6 +118,22 @@ valid f e =
       offset = o .0;
     }
 
+pub fields-ok : (f : Fields) → Valid f → fieldsOk f ≡ true
+unfolding fieldsOk
+fields-ok f v =
+    rw (
+      eq-eqb _ _ (v .kind),
+      le-leb _ _ (v .cell),
+      le-leb _ _ (v .block),
+      le-leb _ _ (v .bin),
+      le-leb _ _ (v .bank),
+      le-leb _ _ (v .ticks),
+      le-leb _ _ (v .centre),
+      le-leb _ _ (v .edge),
+      le-leb (f .second) 4294967295 (omega arith),
+      le-leb _ _ (v .offset),
+    )
+
 -- what bytes that the reader accepts are
 pub record Accepted (n : ℕ) (s : List ℕ) : Type 0 where
   pub count : lagCountOk n ≡ true
@@ -173,6 +189,12 @@ writes n f zs room e =
       fits = leb-true _ _ (b .0);
     }
 
+pub written : (n : ℕ) (f : Fields) (zs : List ℤ) (room : ℕ) → Writes n f zs room
+    → writeVerdict n f zs room ≡ verdict.Accepted
+unfolding writeVerdict
+written n f zs room w =
+    rw (w .count, w .fields, eq-eqb (length zs) (2 * n) (w .length), w .lags, le-leb _ room (w .fits))
+
 -- normalising follows the reader's verdict
 pub normal-follows : (n : ℕ) (s : List ℕ) (k : ℕ)
     → normalVerdict n s k ≡ judged (readVerdict n s) verdict.Refused (firstOf (test (ltb k n) NoLag ∷ []))
@@ -190,7 +212,7 @@ normalises n s k e =
 
 -- the words of the lag part are the lags
 pub lag-part-read : (n : ℕ) (s : List ℕ) → readVerdict n s ≡ verdict.Accepted
-    → map signed (wordsOf (lagPart n s)) ≡ lagNumbers accumulated n (bodyOf s)
+    → lagsRead n s ≡ lagNumbers accumulated n (bodyOf s)
 unfolding part
 lag-part-read n s ok =
     let size : 4 * (headWords accumulated + 2 * n) ≤ length (drop 2 s) =
@@ -273,7 +295,7 @@ module _ (n : ℕ) (f : Fields) (zs : List ℤ) (room : ℕ) (ok : writeVerdict 
   fields-written : fieldsOf (bodyOf (frameOf (header f) (lagWords zs))) ≡ f
   fields-written = ap fieldsOf body-written ∙ fields-header f _ sound
 
-  length-written : length (frameOf (header f) (lagWords zs)) ≡ frameLength (f .kind) n
+  pub length-written : length (frameOf (header f) (lagWords zs)) ≡ frameLength (f .kind) n
   length-written =
       omega (arith, length-frame (header f) (lagWords zs), length-header f, length-map zs numberWord, fine .length)
 
@@ -301,9 +323,12 @@ module _ (n : ℕ) (f : Fields) (zs : List ℤ) (room : ℕ) (ok : writeVerdict 
         fine .lags,
       )
 
-  -- its fields
+  -- its fields, and the lags of its lag part
   pub read-written : readAnswer n (frameOf (header f) (lagWords zs)) ≡ fields f
   read-written = rw (accepts-written, fields-written)
+
+  pub lags-read : lagsRead n (frameOf (header f) (lagWords zs)) ≡ zs
+  lags-read = lag-part-read n (frameOf (header f) (lagWords zs)) accepts-written ∙ lags-written
 
 -- the same of the calls: the reader is given the first bytes of the buffer that the writer leaves
 module _
@@ -320,11 +345,8 @@ module _
     pub leaves-read : readAnswer n (take (frameLength (f .kind) n) (writeLeaves n f zs out)) ≡ fields f
     leaves-read = rw leaves-frame (read-written n f zs (length out) ok)
 
-    pub leaves-lags : map signed (wordsOf (lagPart n (take (frameLength (f .kind) n) (writeLeaves n f zs out)))) ≡ zs
-    leaves-lags =
-        rw leaves-frame
-        (lag-part-read n (frameOf (header f) (lagWords zs)) (accepts-written n f zs (length out) ok)
-        ∙ lags-written n f zs (length out) ok)
+    pub leaves-lags : lagsRead n (take (frameLength (f .kind) n) (writeLeaves n f zs out)) ≡ zs
+    leaves-lags = rw leaves-frame (lags-read n f zs (length out) ok)
 
 -- what is read is written as the bytes that were read
 module _ (n : ℕ) (s : List ℕ) (bytes : Below 256 s) (ok : readVerdict n s ≡ verdict.Accepted) where
@@ -347,33 +369,19 @@ module _ (n : ℕ) (s : List ℕ) (bytes : Below 256 s) (ok : readVerdict n s �
 
   pub accepts-read : (room : ℕ) → length s ≤ room
       → writeVerdict n (fieldsOf (bodyOf s)) (lagNumbers accumulated n (bodyOf s)) room ≡ verdict.Accepted
-  unfolding writeVerdict
   accepts-read room h =
       let a = accepted n s ok in
-      let l : length (lagNumbers accumulated n (bodyOf s)) ≡ 2 * n =
-      length-map (part (headWords accumulated) (2 * n) (bodyOf s)) signed
-      ∙ length-part (bodyOf s) (headWords accumulated) (2 * n) (omega (arith, body-length)) in
-      rw (
-        a .count,
-        a .fields,
-        eq-eqb _ (2 * n) l,
-        a .lags,
-        le-leb (frameLength accumulated n) room (omega (arith, a .size)),
-      )
+      written n _ _ room
+      (record {
+        count = a .count;
+        fields = a .fields;
+        length =
+            length-map (part (headWords accumulated) (2 * n) (bodyOf s)) signed
+            ∙ length-part (bodyOf s) (headWords accumulated) (2 * n) (omega (arith, body-length));
+        lags = a .lags;
+        fits = omega (arith, a .size);
+      })
 
   pub leaves-again : (out : List ℕ) → length s ≤ length out
       → writeLeaves n (fieldsOf (bodyOf s)) (lagNumbers accumulated n (bodyOf s)) out ≡ splice out 0 s
   leaves-again out h = rw (accepts-read (length out) h, frame-read)
-
--- every element of a list below a bound
-below-all : (k : ℕ) (l : List ℕ) → ((i : ℕ) → getD l i 0 < k) → Below k l
-below-all k [] h = tt
-below-all k (x ∷ l) h = (h 0, below-all k l (λ i. h (suc i)))
-
-pub round-trip : RoundTrip
-round-trip =
-    record {
-      fields-back = leaves-read;
-      lags-back = leaves-lags;
-      bytes-back = λ n s out bytes ok room. leaves-again n s (below-all 256 s bytes) ok out room;
-    }

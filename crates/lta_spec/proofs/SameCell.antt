@@ -3,13 +3,13 @@ use Prim.Native.Nat.{ℕ, zero, suc, _*_, _≤_, _<_}
 use mathlib.Core.Path.{_≡_, refl, sym, ap, ap₂, _∙_, subst, fun-ext}
 use mathlib.Core.Bool.{false}
 use mathlib.Core.List.{List, [], _∷_, _++_, map}
-use native.Mathlib.Nat.{mul-le-mul-right}
 use native.Mathlib.Omega.{arith}
 use lib.Dec.{eqb}
 use lib.ListN.{length}
 use lib.Seq.{append-snoc}
 use borrow.Author.Tests.{eqb-false}
 use Rattle.lta_spec.specs.Tick.{fromByte}
+use Rattle.lta_spec.specs.Shape.{binLimit}
 use Rattle.lta_spec.specs.Place.{Label, Cell}
 use Rattle.lta_spec.specs.Call.{idle, discard, binIndex}
 use Rattle.lta_spec.specs.Row.{tickRow, fromWord}
@@ -20,11 +20,26 @@ use Rattle.lta_spec.specs.MachineRun as R
 use Rattle.lta_spec.specs.Engine as E
 use Rattle.lta_spec.specs.Engine.{Row}
 use Rattle.lta_spec.specs.Demand.{places, overAll, ticksBelow}
+use Rattle.lta_spec.proofs.ShapeLaws.{index-below}
+use Rattle.lta_spec.proofs.LayoutLaws.{All}
 use Rattle.lta_spec.proofs.RowLaws.{numbers-one, window, window-shift, ago-window, row-same}
 use Rattle.lta_spec.proofs.Carry.{row, mapCell, mapResult, tick-carry, dump-carry, integrate-carry, empty-carry}
 use Rattle.lta_spec.proofs.Conserve.{tally, tally-ones, overCell, over-places}
 use Rattle.lta_spec.proofs.Conserve.{tick-total, dump-total, integrate-total, empty-total}
 use Rattle.lta_spec.proofs.Sound.{Sound, LabelSound, tick-sound, dump-sound, integrate-sound, empty-sound}
+
+-- a frame that was sent: the bin that it names, and the limits that its set and stamp had there
+pub record Sent (B t : ℕ) (e : Emitted) : Type 0 where
+  pub bank : e .bank < 2
+  pub bin : e .bin < B
+  pub few : length (e .content .members) ≤ binLimit
+  pub stamp : e .content .stamp ≤ t
+
+sent-later : (B t : ℕ) (es : List Emitted) → All (Sent B t) es → All (Sent B (suc t)) es
+sent-later B t [] a = tt
+sent-later B t (e ∷ es) a =
+    let s = a .0 in
+    (record { bank = s .bank; bin = s .bin; few = s .few; stamp = omega arith }, sent-later B t es (a .1))
 
 -- the machine's cell: as many bytes as ticks, sound, and each tick once in its places
 pub record Good (B t : ℕ) (m : R.Unit) : Type 0 where
@@ -33,6 +48,7 @@ pub record Good (B t : ℕ) (m : R.Unit) : Type 0 where
   pub sound : Sound B t (m .cell)
   -- any quantity of the ticks: its sum over the places is its sum over the ticks taken
   pub once : (f : ℕ → ℕ) → overAll (tally f) (places m) ≡ tally f (ticksBelow t)
+  pub frames : All (Sent B t) (m .frames)
 
 -- the engine's cell has, in each place, the row of the machine's set, whatever bytes come later
 pub record Same (n B t : ℕ) (e : E.Unit) (m : R.Unit) : Type 0 where
@@ -64,10 +80,6 @@ held-none B t c s f e =
     let n : (c .held .occupied ≡ 1) → ⊥ = eqb-false (c .held .occupied) 1 e in
     let g = s .flat in
     tally-none f (c .held .content .members) (omega arith)
-
-pub index-below : (B bank bin : ℕ) → bank < 2 → bin < B → binIndex B bank bin < 2 * B
-index-below B bank bin p q =
-    let m : bank * B ≤ 1 * B = mul-le-mul-right B (omega arith) in omega arith
 
 -- a tick
 module _ (n B t : ℕ) (wide : 2 ≤ n) (x y : ℕ) (e : E.Unit) (m : R.Unit) (s : Same n B t e m) where
@@ -111,6 +123,7 @@ module _ (n B t : ℕ) (wide : 2 ≤ n) (x y : ℕ) (e : E.Unit) (m : R.Unit) (s
                     tick-total f (m .cell) (s .good .sound .flat .losses) t,
                     s .good .once f,
                   );
+              frames = sent-later B t (m .frames) (s .good .frames);
             };
       }
 
@@ -127,8 +140,9 @@ module _ (n B t : ℕ) (e : E.Unit) (m : R.Unit) (s : Same n B t e m) where
       → ((gx gy : List ℕ) → ec ≡ mapCell (row n (gx ++ m .xs) (gy ++ m .ys)) mc)
       → Sound B t mc
       → ((f : ℕ → ℕ) → overAll (tally f) (places (machineWith mc fs)) ≡ overAll (tally f) (places m))
+      → All (Sent B t) fs
       → Same n B t (engineWith ec) (machineWith mc fs)
-  change ec mc fs carried sound kept =
+  change ec mc fs carried sound kept sent =
       record {
         cell = carried;
         xs = s .xs;
@@ -139,6 +153,7 @@ module _ (n B t : ℕ) (e : E.Unit) (m : R.Unit) (s : Same n B t e m) where
               heardY = s .good .heardY;
               sound = sound;
               once = λ f. kept f ∙ s .good .once f;
+              frames = sent;
             };
       }
 
@@ -160,6 +175,7 @@ module _ (n B t : ℕ) (e : E.Unit) (m : R.Unit) (s : Same n B t e m) where
         over-places (tally f) m,
         dump-total f (m .cell) (s .good .sound .flat .losses) l t (held-none B t (m .cell) (s .good .sound) f),
       ))
+      (s .good .frames)
 
   pub dump-answer : (l : Label) → (E.dumpCell n l t (e .cell)) .answer ≡ (M.dumpCell l t (m .cell)) .answer
   unfolding mapResult
@@ -186,6 +202,7 @@ module _ (n B t : ℕ) (e : E.Unit) (m : R.Unit) (s : Same n B t e m) where
         integrate-total f (m .cell) (s .good .sound .flat .losses) B
             (omega (arith, index-below B _ _ (l .bank) (l .bin), s .good .sound .flat .bins)),
       ))
+      (s .good .frames)
 
   pub integrate-answer : (E.integrateCell n B (e .cell)) .answer ≡ (M.integrateCell B (m .cell)) .answer
   unfolding mapResult
@@ -193,19 +210,24 @@ module _ (n B t : ℕ) (e : E.Unit) (m : R.Unit) (s : Same n B t e m) where
       ap (λ c. (E.integrateCell n B c) .answer) (s .cell [] [])
       ∙ sym (ap (λ r. r .answer) (integrate-carry n (m .xs) (m .ys) B (m .cell)))
 
-  pub empty-same : (k bank bin : ℕ) → k < 2 * B
-      → Same n B t (engineWith (E.emptyBin n k (e .cell)))
+  pub empty-same : (bank bin : ℕ) → bank < 2 → bin < B
+      → let k = binIndex B bank bin in
+      Same n B t (engineWith (E.emptyBin n k (e .cell)))
       (machineWith (M.emptyBin k (m .cell))
       (record { bank = bank; bin = bin; content = (M.binAt k (m .cell)) .content } ∷ m .frames))
-  empty-same k bank bin h =
-      let fs : List Emitted = record { bank = bank; bin = bin; content = (M.binAt k (m .cell)) .content } ∷ m .frames in
-      change _ _ fs
+  empty-same bank bin hk hb =
+      let k = binIndex B bank bin in
+      let sent : Emitted = record { bank = bank; bin = bin; content = (M.binAt k (m .cell)) .content } in
+      let b = s .good .sound .bins k in
+      change _ _ (sent ∷ m .frames)
       (λ gx gy. ap (E.emptyBin n k) (s .cell gx gy) ∙ sym (empty-carry n (gx ++ m .xs) (gy ++ m .ys) k (m .cell)))
       (empty-sound B t (m .cell) (s .good .sound) k)
       (λ f.
       omega (
         arith,
-        over-places (tally f) (machineWith (M.emptyBin k (m .cell)) fs),
+        over-places (tally f) (machineWith (M.emptyBin k (m .cell)) (sent ∷ m .frames)),
         over-places (tally f) m,
-        empty-total f (m .cell) (s .good .sound .flat .losses) k (omega (arith, s .good .sound .flat .bins)),
+        empty-total f (m .cell) (s .good .sound .flat .losses) k
+            (omega (arith, index-below B bank bin hk hb, s .good .sound .flat .bins)),
       ))
+      (record { bank = hk; bin = hb; few = b .few; stamp = b .stamp }, s .good .frames)

@@ -17,7 +17,7 @@ use Rattle.lta_spec.specs.Call.Call.{tick, dump, integrate, emit, readin
 use Rattle.lta_spec.specs.Answer.Answer.{number, entry}
 use Rattle.lta_spec.specs.Row.{rowSums}
 use Rattle.lta_spec.specs.Machine as M
-use Rattle.lta_spec.specs.Numbers.{setFrame}
+use Rattle.lta_spec.specs.Numbers.{Emitted, setFrame}
 use Rattle.lta_spec.specs.MachineRun as R
 use Rattle.lta_spec.specs.Engine as E
 use Rattle.lta_spec.specs.Damage as D
@@ -33,7 +33,7 @@ use Rattle.lta_spec.proofs.SetLaws.{stored-edge, stored-centre, sums-to
 use Rattle.lta_spec.proofs.Carry.{row, mapStamped, mapBin, mapCell, room-carry, bin-carry, loss-carry}
 use Rattle.lta_spec.proofs.Sound.{LabelSound}
 use Rattle.lta_spec.proofs.Intact.{tick-intact, dump-intact, integrate-intact, emit-intact, read-intact}
-use Rattle.lta_spec.proofs.SameCell.{Same, few, index-below, tick-same}
+use Rattle.lta_spec.proofs.SameCell.{Same, few, tick-same}
 use Rattle.lta_spec.proofs.SameCell.{dump-same, dump-answer, integrate-same, integrate-answer, empty-same}
 
 -- all cells
@@ -280,6 +280,15 @@ held-off sh t (e ∷ es) (m ∷ ms) a =
     let room = ap (E.hasRoom (sh .lags)) (a .0 .cell [] []) ∙ room-carry (sh .lags) (m .xs) (m .ys) (m .cell) in
     ap₂ (λ b k. cond b 0 1 + k) room (held-off sh t es ms (a .1))
 
+-- the frame of a set is that of its row
+pub set-frame : (sh : Shape) (c : ℕ) (xs ys : List ℕ) (e : Emitted)
+    → S.rowFrame sh c (e .bank) (e .bin) (mapStamped (row (sh .lags) xs ys) (e .content)) ≡ setFrame sh c xs ys e
+unfolding S.rowFrame setFrame mapStamped
+set-frame sh c xs ys e =
+    let n = sh .lags in
+    let s = e .content .members in
+    rw (lags-told n xs ys s, numbers-size n xs ys s, stored-edge n xs ys s, stored-centre n xs ys s)
+
 -- an accepted call
 module _ (sh : Shape) (wide : 2 ≤ sh .lags) (t : ℕ) (es : List E.Unit) (ms : List R.Unit) (limit : t ≤ runLimit)
     (cells : length ms ≡ sh .cells) (units : AllSame (sh .lags) (sh .bins) t es ms) where
@@ -300,21 +309,12 @@ module _ (sh : Shape) (wide : 2 ≤ sh .lags) (t : ℕ) (es : List E.Unit) (ms :
       S.rowFrame sh c bank bin
       ((E.binAt (sh .lags) (binIndex (sh .bins) bank bin) (S.cellAt sh c (record { t = t; units = es }))) .content)
       ≡ setFrame sh c (gx ++ u .xs) (gy ++ u .ys) (R.emitted sh c bank bin (record { t = t; units = ms }))
-  unfolding S.rowFrame setFrame R.emitted mapBin mapStamped
+  unfolding R.emitted mapBin
   frame-same gx gy c bank bin h =
-      let k = binIndex (sh .bins) bank bin in
       let u = R.unitAt sh c (record { t = t; units = ms }) in
-      let xs = gx ++ u .xs in
-      let ys = gy ++ u .ys in
-      let s = (M.binAt k (u .cell)) .content .members in
-      let n = sh .lags in
-      rw (
-        bin-is sh wide t es ms limit cells units c h gx gy k,
-        lags-told n xs ys s,
-        numbers-size n xs ys s,
-        stored-edge n xs ys s,
-        stored-centre n xs ys s,
-      )
+      ap (λ b. S.rowFrame sh c bank bin (b .content))
+      (bin-is sh wide t es ms limit cells units c h gx gy (binIndex (sh .bins) bank bin))
+      ∙ set-frame sh c (gx ++ u .xs) (gy ++ u .ys) (R.emitted sh c bank bin (record { t = t; units = ms }))
 
   pub accepted-same : (call : Call) → firstOf (R.callTests sh (record { t = t; units = ms }) call) ≡ Accepted
       → SameDone sh (S.accepted sh call (record { t = t; units = es }))
@@ -358,12 +358,12 @@ module _ (sh : Shape) (wide : 2 ≤ sh .lags) (t : ℕ) (es : List E.Unit) (ms :
       let b = pass (bankOk bank && ltb bin (sh .bins)) _ _ (a .1) in
       let d = and-both (bankOk bank) (ltb bin (sh .bins)) (b .0) in
       let s = at sh wide t es ms limit cells units c (a .0) in
-      let k = binIndex (sh .bins) bank bin in
-      let inside = index-below (sh .bins) bank bin (ltb-true bank 2 (d .0)) (ltb-true bin (sh .bins) (d .1)) in
       record {
         answer = refl;
         out = ap (splice out 0) (frame-same [] [] c bank bin (a .0));
-        run = put-same c _ _ (empty-same _ _ t _ _ s k bank bin inside);
+        run =
+            put-same c _ _
+            (empty-same _ _ t _ _ s bank bin (ltb-true bank 2 (d .0)) (ltb-true bin (sh .bins) (d .1)));
       }
   accepted-same (reading c lag loss) v =
       let a = pass (ltb c (sh .cells)) _ _ v in

@@ -2,8 +2,8 @@
 use mathlib.Core.Path.{_≡_, refl}
 use mathlib.Core.Bool.{Bool, true, false, _&&_}
 use mathlib.Core.List.{List, [], _∷_}
-use Prim.Native.Nat.{ℕ, zero, suc, _+_, _*_, _/_, _%_, _≤_}
-use native.Mathlib.Nat.{mul-le-mul}
+use Prim.Native.Nat.{ℕ, zero, suc, _+_, _*_, _/_, _%_, _≤_, _<_}
+use native.Mathlib.Nat.{mul-le-mul, mul-le-mul-right}
 use native.Mathlib.Omega.{arith}
 use lib.Dec.{leb, eqb}
 use lib.ListN.{getD}
@@ -11,6 +11,7 @@ use borrow.Author.Tests.{leb-true, eqb-true}
 use Rattle.lta_spec.specs.Words.{all}
 use Rattle.lta_spec.specs.Shape.{lagCountOk, shapeTests, shapeOk}
 use Rattle.lta_spec.specs.Size.{binWords, cellWords}
+use Rattle.lta_spec.specs.Call.{binIndex}
 use Rattle.lta_spec.specs.declared.Shape.{Shape}
 use Rattle.lta_spec.proofs.TestLaws.{and-both}
 
@@ -71,3 +72,8 @@ cell-small n bins h k =
 pub all-small : (sh : Shape) → Shaped sh → sh .cells * cellWords (sh .lags) (sh .bins) ≤ 16 * 600000
 all-small sh s =
     mul-le-mul {n₂ = 16} {m₂ = 600000} (s .cells) (cell-small (sh .lags) (sh .bins) (s .lags) (s .bins))
+
+-- a bin that is named stands among the bins of both banks
+pub index-below : (B bank bin : ℕ) → bank < 2 → bin < B → binIndex B bank bin < 2 * B
+index-below B bank bin p q =
+    let m : bank * B ≤ 1 * B = mul-le-mul-right B (omega arith) in omega arith

@@ -11,7 +11,7 @@ use lib.ListN.{getD}
 use borrow.Author.Tests.{ltb-true, ltb-false, eqb-true, eqb-false, ne-eqb, le-ltb}
 use Rattle.lta_spec.specs.Shape.{peak}
 use Rattle.lta_spec.specs.Tick.{xDelay, yDelay}
-use Rattle.lta_spec.specs.Tick.{Entry, nibble, fromByte, product, weight, turn, inPhase, quadrature}
+use Rattle.lta_spec.specs.Tick.{Entry, nibble, fromByte, product, weights, weight, inPhase, quadrature}
 use Rattle.lta_spec.specs.Row.{biased, entryWord, fromWord}
 
 -- the size of a product of whole numbers is the product of their sizes
@@ -45,12 +45,7 @@ within-at b (z ∷ zs) t (suc k) = within-at b zs (and-right (leb (natAbs z) b) 
 
 pub weight-bound : (d : ℕ) → natAbs (weight d) ≤ 2
 unfolding weight
-weight-bound d =
-    within-at 2
-    (pos 2 ∷ pos 2 ∷ pos 1 ∷ pos 1 ∷ pos 0 ∷ negsuc 0 ∷ negsuc 0 ∷ negsuc 1
-    ∷ negsuc 1 ∷ negsuc 1 ∷ negsuc 0 ∷ negsuc 0 ∷ pos 0 ∷ pos 1 ∷ pos 1 ∷ pos 2
-    ∷ [])
-    tt d
+weight-bound d = within-at 2 weights tt d
 
 -- a valid sample is -7 to 7
 pub record Sampled (e : Entry) : Type 0 where
@@ -82,16 +77,17 @@ product-bound x y p q = by-tests (x .valid) (y .valid) refl refl
     by-tests false b e f = omega arith
 
 -- what one tick adds to a sum is at most 98 in size
+weighted-bound : (x y : Entry) → Sampled x → Sampled y → (d : ℕ) → natAbs (product x y *ℤ weight d) ≤ peak
+weighted-bound x y p q d =
+    rw (size-mul (product x y) (weight d)) (mul-le-mul (product-bound x y p q) (weight-bound d))
+
 pub inPhase-bound : (x y : Entry) → Sampled x → Sampled y → natAbs (inPhase x y) ≤ peak
 unfolding inPhase
-inPhase-bound x y p q =
-    rw (size-mul (product x y) (weight (turn x y))) (mul-le-mul (product-bound x y p q) (weight-bound (turn x y)))
+inPhase-bound x y p q = weighted-bound x y p q _
 
 pub quadrature-bound : (x y : Entry) → Sampled x → Sampled y → natAbs (quadrature x y) ≤ peak
 unfolding quadrature
-quadrature-bound x y p q =
-    rw (size-mul (product x y) (weight ((turn x y + 12) % 16)))
-    (mul-le-mul (product-bound x y p q) (weight-bound ((turn x y + 12) % 16)))
+quadrature-bound x y p q = weighted-bound x y p q _
 
 -- the biased number of a small one, and its ceiling
 pub biased-is : (z : ℤ) → natAbs z ≤ peak → pos (biased z) ≡ pos peak +ℤ z
@@ -100,13 +96,13 @@ biased-is (negsuc n) h =
     rw (le-ltb peak (suc n) h)
 
 -- a stored entry gives what its byte gives
-low-digit : (c h : ℕ) → c < 16 → (c + 16 * h) % 16 ≡ c
+pub low-digit : (c h : ℕ) → c < 16 → (c + 16 * h) % 16 ≡ c
 low-digit c h l = omega arith
 
-high-digit : (c h : ℕ) → c < 16 → h < 16 → (c + 16 * h) / 16 % 16 ≡ h
+pub high-digit : (c h : ℕ) → c < 16 → h < 16 → (c + 16 * h) / 16 % 16 ≡ h
 high-digit c h l k = omega arith
 
-twice-eight : (a : ℕ) → a < 16 → ((a + 8) % 16 + 8) % 16 ≡ a
+pub twice-eight : (a : ℕ) → a < 16 → ((a + 8) % 16 + 8) % 16 ≡ a
 twice-eight a l = omega arith
 
 invalid-same : (a : ℕ) → a < 16 → not (eqb ((a + 8) % 16) 0) ≡ not (eqb a 8)

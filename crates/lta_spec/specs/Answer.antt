@@ -80,7 +80,7 @@ abbrev pub parsedAs : Parsed → Answer
 parsedAs (parsed.Frame f) = fields f
 parsedAs (parsed.Refused r) = refusal r
 
--- "I and Q each divided by the centre count ..; if that count is 0, no data"
+-- "I and Q each divided by the centre count in f64"; "if that count is 0", no data
 abbrev pub normalisedAs : Normalised → Answer
 normalisedAs (normalised.Lag z) = normal z
 normalisedAs normalised.NoData = noData

@@ -1,6 +1,6 @@
--- Document 01, demand 3, as one statement: "every valid sample is in a frame, still in the machine, or in the ledger
--- under its proper cause", for every list of calls after one setup. proofs/Demand.antt proves it.
-use Prim.Native.Nat.{ℕ, zero, suc, _+_, _*_, _≤_, _<_}
+-- Document 01, demand 3, as one statement for every list of calls after one setup: "One theorem covers the list from
+-- end to end". proofs/Demand.antt proves it.
+use Prim.Native.Nat.{ℕ, zero, suc, _+_, _*_, _/_, _%_, _≤_, _<_}
 use mathlib.Core.Path.{_≡_}
 use mathlib.Core.Bool.{Bool, true, false, cond}
 use mathlib.Core.List.{List, [], _∷_, _++_, map, List·Memᴰ}
@@ -10,21 +10,34 @@ use lib.ListN.{length, getD, take}
 use Rattle.lta_spec.specs.Refusals.{firstOf}
 use Rattle.lta_spec.specs.Size.{memoryWords, hostTests}
 use Rattle.lta_spec.specs.Tick.{edgeLag, centreLag}
-use Rattle.lta_spec.specs.Place.{Stamped}
-use Rattle.lta_spec.specs.Frame.{accumulated, frameLength}
+use Rattle.lta_spec.specs.Place.{Stamped, Cell}
+use Rattle.lta_spec.specs.Frame.{accumulated, frameLength, bodyOf, fieldsOf}
+use Rattle.lta_spec.specs.FrameCalls.{readAnswer}
 use Rattle.lta_spec.specs.Call.{Call}
 use Rattle.lta_spec.specs.Answer.{Answer}
 use Rattle.lta_spec.specs.Call.Call.{tick, dump, integrate, emit, reading}
 use Rattle.lta_spec.specs.Answer.Answer.{refused, number, entry, fields, normal, noData}
 use Rattle.lta_spec.specs.Machine.{Ticks, binAt}
-use Rattle.lta_spec.specs.Numbers.{sumOver, inPhaseSum, quadratureSum, validCount, setFrame}
+use Rattle.lta_spec.specs.Numbers.{
+  Emitted,
+  sumOver,
+  inPhaseSum,
+  quadratureSum,
+  validCount,
+  lagSums,
+  setSums,
+  setFrame,
+}
 use Rattle.lta_spec.specs.MachineRun as M
-use Rattle.lta_spec.specs.Row.{ticksOf, edgeOf, centreOf, unbiased}
+use Rattle.lta_spec.specs.Row.{ticksOf, edgeOf, centreOf, unbiased, rowSums}
 use Rattle.lta_spec.specs.Engine as E
 use Rattle.lta_spec.specs.Engine.{Row}
 use Rattle.lta_spec.specs.Memory.{runL, start}
 use Rattle.lta_spec.specs.Step as S
+use Rattle.lta_spec.specs.RoundTrip.{lagsRead}
 use Rattle.lta_spec.specs.declared.Shape.{Shape}
+use Rattle.lta_spec.specs.declared.Fields.{Fields}
+use Rattle.lta_spec.specs.declared.Sums.{Sums}
 use Rattle.lta_spec.specs.declared.Verdict.{Verdict}
 use Rattle.lta_spec.specs.declared.Verdict.the-variants.{Accepted, Refused}
 
@@ -69,7 +82,7 @@ machineRun sh (c ∷ cs) r = machineRun sh cs ((machineStep sh c r) .run)
 abbrev pub machineAfter : Shape → List Listed → M.Run
 machineAfter sh cs = machineRun sh cs (M.start sh)
 
--- The engine: "Each call gets work memory as the call before left it, and nothing else writes it meanwhile."
+-- The engine: "Each call gets work memory .. as the call before left .. it, and nothing else writes them meanwhile."
 abbrev pub engineStep : Shape → Listed → (mem : List ℕ) → S.Step
 engineStep sh (usual call) mem = S.step sh call mem
 engineStep sh (odd shape call given) mem =
@@ -153,7 +166,7 @@ abbrev pub ticksBelow : ℕ → Ticks
 ticksBelow zero = []
 ticksBelow (suc t) = t ∷ ticksBelow t
 
--- the frames of cell c, newest first, "by their words as the call left them"
+-- the frames of cell c, newest first: "in a frame's words as its call left them"
 abbrev pub frameIf : (named : Bool) (n : ℕ) → Answer → List ℕ → List (List ℕ)
 frameIf true n (number k) out = take (frameLength accumulated n) out ∷ []
 frameIf true n (refused r) out = []
@@ -175,6 +188,61 @@ abbrev pub framesTold : (n c : ℕ) → List Listed → List Told → List (List
 framesTold n c [] ts = []
 framesTold n c (l ∷ ls) [] = []
 framesTold n c (l ∷ ls) (t ∷ ts) = framesTold n c ls ts ++ frameTold n c l t
+
+-- The fields of the frame of a set, "The frame" again in numbers: W0 the cell, W1 Y block, data bin and bank, W2 to W4
+-- ticks, centre and edge count, W5 the second and W6 the ticks of the stamp.
+abbrev pub sentFields : Shape → (c : ℕ) (xs ys : List ℕ) → Emitted → Fields
+sentFields sh c xs ys e =
+    record {
+      kind = 2;
+      cell = c;
+      block = sh .start + e .bin % sh .blocks;
+      bin = e .bin;
+      bank = e .bank;
+      ticks = length (e .content .members);
+      centre = validCount (sh .lags) xs ys (e .content .members) (sh .lags / 2);
+      edge = validCount (sh .lags) xs ys (e .content .members) 0;
+      second = sh .second + e .content .stamp / sh .rate;
+      offset = e .content .stamp % sh .rate;
+    }
+
+-- A frame as its call left it, read back: the reader accepts it, its fields are the set's, and its lags are the signed
+-- sums themselves, with no wrap at 32 bits.
+pub record ReadBack (sh : Shape) (c : ℕ) (xs ys : List ℕ) (frame : List ℕ) (e : Emitted) : Type 0 where
+  pub few : length (e .content .members) ≤ 16777215
+  pub told : readAnswer (sh .lags) frame ≡ fields (sentFields sh c xs ys e)
+  pub lags : lagsRead (sh .lags) frame ≡ lagSums (sh .lags) xs ys (e .content .members) (sh .lags) 0
+
+-- frames and the machine's sets, one by one
+abbrev pub AllRead : Shape → (c : ℕ) (xs ys : List ℕ) → List (List ℕ) → List Emitted → Type 0
+AllRead sh c xs ys [] [] = Prim.Unit {0}
+AllRead sh c xs ys [] (e ∷ es) = ⊥
+AllRead sh c xs ys (f ∷ fs) [] = ⊥
+AllRead sh c xs ys (f ∷ fs) (e ∷ es) = ReadBack sh c xs ys f e × AllRead sh c xs ys fs es
+
+-- the rows of a cell's places in work memory: Open, Held, the bins, the losses
+abbrev pub rows : Cell Row → List Row
+rows c = c .opened .members ∷ c .held .content .members ∷ map (λ b. b .content .members) (c .bins) ++ c .losses
+
+-- the numbers at lag k of a frame read back
+abbrev pub readSums : (n k : ℕ) (frame : List ℕ) → Sums
+readSums n k frame =
+    let f = fieldsOf (bodyOf frame) in
+    record {
+      i = getD (lagsRead n frame) (2 * k) (pos 0);
+      q = getD (lagsRead n frame) (2 * k + 1) (pos 0);
+      ticks = f .ticks;
+      edge = f .edge;
+      centre = f .centre;
+    }
+
+-- numbers that add up: ticks and counts as naturals, sums as whole numbers
+pub record AddUp (parts : List Sums) (whole : Sums) : Type 0 where
+  pub inPhase : overAllℤ (λ p. p .i) parts ≡ whole .i
+  pub quadrature : overAllℤ (λ p. p .q) parts ≡ whole .q
+  pub ticks : overAll (λ p. p .ticks) parts ≡ whole .ticks
+  pub edge : overAll (λ p. p .edge) parts ≡ whole .edge
+  pub centre : overAll (λ p. p .centre) parts ≡ whole .centre
 
 -- Demand 3, of one list of calls
 pub record Demand3 (sh : Shape) (cs : List Listed) : Type 0 where
@@ -204,3 +272,15 @@ pub record Demand3 (sh : Shape) (cs : List Listed) : Type 0 where
   pub adds-up : (c : ℕ) → c < sh .cells → (f : ℕ → ℤ)
       → overAllℤ (sumOver f) (places (M.unitAt sh c (machineAfter sh cs))) ≡ sumOver f
       (ticksBelow ((machineAfter sh cs) .t))
+  -- every emitted frame, read back, is the machine's in numbers
+  pub read-back : (c : ℕ) → c < sh .cells
+      → let u = M.unitAt sh c (machineAfter sh cs) in
+      AllRead sh c (u .xs) (u .ys) (framesTold (sh .lags) c cs (engineTells sh cs (freshMem sh))) (u .frames)
+  -- of every cell and lag, the numbers in work memory and those of the frames read back are, added up, the numbers of
+  -- all ticks taken
+  pub totals : (c k : ℕ) → c < sh .cells → k < sh .lags
+      → let u = M.unitAt sh c (machineAfter sh cs) in
+      AddUp
+      (map (rowSums k) (rows (S.cellAt sh c ((runL sh) .get (memAfter sh cs))))
+      ++ map (readSums (sh .lags) k) (framesTold (sh .lags) c cs (engineTells sh cs (freshMem sh))))
+      (setSums (sh .lags) (u .xs) (u .ys) (ticksBelow ((machineAfter sh cs) .t)) k)

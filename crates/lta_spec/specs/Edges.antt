@@ -1,20 +1,23 @@
--- Document 01, "Edges of the rules": the rows marked P, as one statement about the definitions. proofs/Edges.antt
--- proves it.
-use Prim.Native.Nat.{ℕ, _+_, _%_}
+-- Document 01, "Edges of the rules": the rows marked P, as one statement about the definitions, with rows that a
+-- wrong sign, order or number would break. proofs/Edges.antt proves it.
+use Prim.Native.Nat.{ℕ, _+_, _-_, _%_, _<_}
 use mathlib.Core.Path.{_≡_}
 use mathlib.Core.Bool.{true, false}
-use mathlib.Core.List.{List, [], _∷_, _++_}
-use lib.IntN.{pos}
-use lib.ListN.{length, replicate}
+use mathlib.Core.List.{List, [], _∷_, _++_, map}
+use lib.Dec.{eqb}
+use lib.IntN.{ℤ, pos}
+use lib.ListN.{length, replicate, take}
 use Rattle.lta_spec.specs.Words.{sums}
+use Rattle.lta_spec.specs.Refusals.{refusalNumber, lossNumber, test, firstOf}
 use Rattle.lta_spec.specs.Bytes.{bytesOf}
 use Rattle.lta_spec.specs.Frame.{mark, accumulated, frameLength}
-use Rattle.lta_spec.specs.Tick.{xDelay, yDelay, weight}
-use Rattle.lta_spec.specs.Place.{Bin, Cell, filling, tooWide, holdoff}
-use Rattle.lta_spec.specs.Call.{add, dataBin, dataBinOk}
+use Rattle.lta_spec.specs.Tick.{fromByte, xDelay, yDelay, weight, inPhase, quadrature}
+use Rattle.lta_spec.specs.Place.{Label, Bin, Cell, free, filling}
+use Rattle.lta_spec.specs.Place.{ordered, overrun, full, replaced, tooWide, holdoff}
+use Rattle.lta_spec.specs.Call.{add, dataBin, dataBinOk, binIndex}
 use Rattle.lta_spec.specs.Call.Call.{tick, dump, integrate, emit}
-use Rattle.lta_spec.specs.Answer.{Answer}
-use Rattle.lta_spec.specs.Answer.Answer.{refused, number}
+use Rattle.lta_spec.specs.FrameCalls.{quotient, normalAnswer}
+use Rattle.lta_spec.specs.Answer.Answer.{refused, number, normal}
 use Rattle.lta_spec.specs.Machine as M
 use Rattle.lta_spec.specs.Machine.{Ticks}
 use Rattle.lta_spec.specs.MachineRun as R
@@ -23,7 +26,14 @@ use Rattle.lta_spec.specs.Engine.{Row}
 use Rattle.lta_spec.specs.Row.{ticksOf}
 use Rattle.lta_spec.specs.Demand.{Listed, Told, machineTells, engineTells, freshMem}
 use Rattle.lta_spec.specs.Demand.Listed.{usual}
+use Rattle.lta_spec.specs.Step.{Foreseen}
+use Rattle.lta_spec.specs.WorkedRun.{quiet, minus, workedShape, workedRun, workedFrame, callsOf, toldBy}
 use Rattle.lta_spec.specs.declared.Shape.{Shape}
+use Rattle.lta_spec.specs.declared.Refusal.{Refusal}
+use Rattle.lta_spec.specs.declared.Refusal.the-variants as no
+use Rattle.lta_spec.specs.declared.Verdict.the-variants.{Accepted, Refused}
+use Rattle.lta_spec.specs.declared.Loss.{Loss}
+use Rattle.lta_spec.specs.declared.Loss.the-variants.{Ordered, Overrun, Full, Replaced, Wide, Holdoff}
 
 -- "C=1, N=2, B=2, M=1, S=0, R=4, Z=0"
 abbrev pub scriptShape : Shape
@@ -40,9 +50,6 @@ script =
     ∷ usual (emit 0 0 0 (replicate 50 0))
     ∷ usual (integrate 0)
     ∷ []
-
-abbrev pub quiet : Answer → Told
-quiet a = record { answer = a; out = [] }
 
 -- "EM 0 2 0 3 2 1 0 0 6 0 10 0 24" behind the mark, byte by byte
 abbrev pub scriptFrame : List ℕ
@@ -64,6 +71,33 @@ abbrev pub blockShape : (blocks bins : ℕ) → Shape
 blockShape blocks bins =
     record { cells = 1; lags = 2; bins = bins; blocks = blocks; start = 0; rate = 1; second = 0 }
 
+-- what one tick adds at a lag where the bytes x and y meet
+abbrev pub Adds : (x y : ℕ) (i q : ℤ) → Type 0
+Adds x y i q = (inPhase (fromByte x) (fromByte y) ≡ i) × (quadrature (fromByte x) (fromByte y) ≡ q)
+
+-- a run of the plain machine at tick number t; its cells do not matter to the tests of a tick
+abbrev pub beforeTick : (t : ℕ) → R.Run
+beforeTick t = record { t = t; units = [] }
+
+-- the bytes of a tick of two cells
+abbrev pub fourBytes : List ℕ
+fourBytes = 0x12 ∷ 0x34 ∷ 0x56 ∷ 0x78 ∷ []
+
+-- the refusals in the order of document 01's numbers
+abbrev pub allRefusals : List Refusal
+allRefusals =
+    no.BadShape ∷ no.WrongMemory ∷ no.WrongSamples ∷ no.RunFull ∷ no.NoCell ∷ no.BadCommand ∷ no.NoBin
+    ∷ no.NothingHeld ∷ no.NotReady ∷ no.ShortBuffer ∷ no.Damaged ∷ no.NoLag
+    ∷ no.WrongLength ∷ no.WrongMark ∷ no.WrongSum ∷ no.BadField ∷ no.BadRecord
+    ∷ []
+
+-- the six losses, and the place of a loss in a cell's list by its number
+abbrev pub sixLosses : List Loss
+sixLosses = Ordered ∷ Overrun ∷ Full ∷ Replaced ∷ Wide ∷ Holdoff ∷ []
+
+abbrev pub lossPlace : (loss : ℕ) → ℕ
+lossPlace loss = loss - 1
+
 -- command 001 onto a Filling bin
 pub record Adding {P : Type 0} (b : Bin P) (c : Cell P) : Type 0 where
   pub isFilling : b .state ≡ filling
@@ -81,17 +115,44 @@ pub record Edges : Type 0 where
   -- P1 the frame above
   pub p1-machine : machineTells scriptShape script (R.start scriptShape) ≡ scriptTold
   pub p1-engine : engineTells scriptShape script (freshMem scriptShape) ≡ scriptTold
+  -- the worked run; the mark, W0 and W1 of its frame as bytes
+  pub worked-machine : machineTells workedShape (callsOf workedRun) (R.start workedShape) ≡ toldBy workedRun
+  pub worked-engine : engineTells workedShape (callsOf workedRun) (freshMem workedShape) ≡ toldBy workedRun
+  pub worked-bytes : take 10 workedFrame ≡ 0x4C ∷ 0x54 ∷ 0x02 ∷ 0x08 ∷ 0 ∷ 0 ∷ 0 ∷ 0x16 ∷ 0x05 ∷ 0x80 ∷ []
   -- P2 N=2 lag 0: delays 0 and 1; lag 1: 1 and 1
   pub p2-lag0 : (xDelay 0 ≡ 0) × (yDelay 2 0 ≡ 1)
   pub p2-lag1 : (xDelay 1 ≡ 1) × (yDelay 2 1 ≡ 1)
   -- P3 d=4: I weight 0, Q weight 2
   pub p3 : (weight 4 ≡ pos 0) × (weight ((4 + 12) % 16) ≡ pos 2)
+  -- samples 3 and -5: X phase 9 and Y phase 5, d=4; X phase 5 and Y phase 9, d=12
+  pub p3-ahead : Adds 0x93 0x5B (pos 0) (minus 30)
+  pub p3-behind : Adds 0x53 0x9B (pos 0) (pos 30)
+  -- X phase 0 and Y phase 15, d=1: weights 2 and 1; X phase 15 and Y phase 0, d=15: weights 2 and -1
+  pub p3-one-ahead : Adds 0x03 0xFB (minus 30) (minus 15)
+  pub p3-one-behind : Adds 0xF3 0x0B (minus 30) (pos 15)
   -- P4 M=16, B=1,000, phase 61 fits; P5 phase 62, offset 0, is refused though 992 < 1,000
   pub p4 : dataBinOk (blockShape 16 1000) 61 15 ≡ true
   pub p5 : (dataBinOk (blockShape 16 1000) 62 0 ≡ false) × (dataBin (blockShape 16 1000) 62 0 ≡ 992)
   -- P6 M=4, B=1,000: phase 249 fits; P7 250 doesn't
   pub p6 : dataBinOk (blockShape 4 1000) 249 3 ≡ true
   pub p7 : dataBinOk (blockShape 4 1000) 250 0 ≡ false
+  -- M=3, S=20: the first and the last block, and those beside them
+  pub first-block : (dataBinOk workedShape 1 19 ≡ false) × (dataBinOk workedShape 1 20 ≡ true)
+  pub last-block : (dataBinOk workedShape 1 22 ≡ true) × (dataBinOk workedShape 1 23 ≡ false)
+  -- the bins of bank 0, then those of bank 1
+  pub bin-order : binIndex 6 1 4 ≡ 10
+  -- "4: t is 2,147,483,648"
+  pub last-tick : firstOf (R.callTests workedShape (beforeTick 2147483647) (tick fourBytes)) ≡ Accepted
+  pub run-full : firstOf (R.callTests workedShape (beforeTick 2147483648) (tick fourBytes)) ≡ Refused no.RunFull
+  -- "Who may be told no": 1 to 17
+  pub refusal-numbers : map refusalNumber allRefusals
+      ≡ 1 ∷ 2 ∷ 3 ∷ 4 ∷ 5 ∷ 6 ∷ 7 ∷ 8 ∷ 9 ∷ 10 ∷ 11 ∷ 12 ∷ 13 ∷ 14 ∷ 15 ∷ 16 ∷ 17 ∷ []
+  -- "Where several apply, the order stands after each group."
+  pub first-applies : firstOf (test false no.NoCell ∷ test false no.BadCommand ∷ []) ≡ Refused no.NoCell
+  -- "1 ordered, 2 overrun, 3 full, 4 replaced, 5 wide, 6 holdoff"
+  pub loss-numbers : map lossNumber sixLosses ≡ 1 ∷ 2 ∷ 3 ∷ 4 ∷ 5 ∷ 6 ∷ []
+  pub loss-places : map (λ l. lossPlace (lossNumber l)) sixLosses
+      ≡ ordered ∷ overrun ∷ full ∷ replaced ∷ tooWide ∷ holdoff ∷ []
   -- P8 Open at 524,287 takes a tick; P9 at 524,288 it is held off
   pub p8-machine : (t : ℕ) (c : Cell Ticks) → length (c .opened .members) ≡ 524287
       → ((M.tickCell t c) .opened .members ≡ c .opened .members ++ t ∷ []) × ((M.tickCell t c) .losses ≡ c .losses)
@@ -99,10 +160,26 @@ pub record Edges : Type 0 where
       → let d = E.tickBy n (E.hasRoom n c) row c in
       (d .opened .members ≡ sums (c .opened .members) row) × (d .losses ≡ c .losses)
   pub p9-machine : (t : ℕ) (c : Cell Ticks) → length (c .opened .members) ≡ 524288
-      → ((M.tickCell t c) .opened ≡ c .opened) × ((M.tickCell t c) .losses ≡ M.lose holdoff (t ∷ []) (c .losses))
+      → let d = M.tickCell t c in
+      (d .opened ≡ c .opened) × (d .losses ≡ M.lose (lossPlace 6) (t ∷ []) (c .losses))
   pub p9-engine : (n : ℕ) (row : Row) (c : Cell Row) → ticksOf (c .opened .members) ≡ 524288
       → let d = E.tickBy n (E.hasRoom n c) row c in
-      (d .opened ≡ c .opened) × (d .losses ≡ E.lose n holdoff row (c .losses))
+      (d .opened ≡ c .opened) × (d .losses ≡ E.lose n (lossPlace 6) row (c .losses))
+  -- the forecast at 524,287 is 1, and at 524,288 it is 0
+  pub forecast-one : Foreseen 524287 1 × ((ticks : ℕ) → Foreseen 524287 ticks → ticks ≡ 1)
+  pub forecast-none : Foreseen 524288 0 × ((ticks : ℕ) → Foreseen 524288 ticks → ticks ≡ 0)
+  -- "An integration's stamp is t at its cell's previous accepted dump other than 111"
+  pub dump-stamp : (l : Label) (t : ℕ) (c : Cell Ticks) → eqb (l .command) 7 ≡ false
+      → (M.dumpCell l t c) .cell .opened .stamp ≡ t
+  pub idle-stamp : (l : Label) (t : ℕ) (c : Cell Ticks) → eqb (l .command) 7 ≡ true → (M.dumpCell l t c) .cell ≡ c
+  -- "A bin's stamp is that of the integration that took it out of Free or replaced its set."
+  pub bin-stamp : (new old : ℕ) → (M.stampAfter true new old ≡ new) × (M.stampAfter false new old ≡ old)
+  -- "An emptied Held keeps its label and stamp, an emptied bin its stamp."
+  pub emptied-held : (k : ℕ) (b : Bin Ticks) (ls : List Ticks) (c : Cell Ticks)
+      → let h = (M.release k b ls c) .held in
+      (h .label ≡ c .held .label) × (h .content ≡ M.stamped [] (c .held .content .stamp))
+  pub emptied-bin : (k : ℕ) (c : Cell Ticks) → k < length (c .bins)
+      → M.binAt k (M.emptyBin k c) ≡ record { state = free; content = M.stamped [] ((M.binAt k c) .content .stamp) }
   -- P10 bin at 16,777,214 plus 1 joins; P11 plus 2 is wide
   pub p10-machine : (k : ℕ) (b : Bin Ticks) (c : Cell Ticks) → Adding b c
       → length (b .content .members) ≡ 16777214 → length (c .held .content .members) ≡ 1
@@ -118,9 +195,12 @@ pub record Edges : Type 0 where
       → (M.integrateAt k b c) .answer ≡ 5
   pub p11-lost : (k : ℕ) (b : Bin Ticks) (c : Cell Ticks) → Adding b c
       → length (b .content .members) ≡ 16777214 → length (c .held .content .members) ≡ 2
-      → (M.integrateAt k b c) .cell ≡ M.release k b (M.lose tooWide (c .held .content .members) (c .losses)) c
+      → (M.integrateAt k b c) .cell ≡ M.release k b (M.lose (lossPlace 5) (c .held .content .members) (c .losses)) c
   pub p11-engine : (n k : ℕ) (b : Bin Row) (c : Cell Row) → Adding b c
       → ticksOf (b .content .members) ≡ 16777214 → ticksOf (c .held .content .members) ≡ 2
       → (E.integrateAt n k b c) .answer ≡ 5
+  -- the worked frame at lag 2, "I and Q each divided by the centre count", 2
+  pub normalised : normalAnswer 4 workedFrame 2
+      ≡ normal (record { re = quotient (minus 6) 2; im = quotient (pos 11) 2 })
   -- P12 N=128 frame: 1,058 bytes
   pub p12 : frameLength accumulated 128 ≡ 1058

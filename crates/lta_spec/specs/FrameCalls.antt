@@ -1,5 +1,5 @@
--- The calls on frames: reader, lag part, writer, normalised lag. Refusals "1 for N, then 13, 14, 15, 16. Normalising:
--- 12 last. Writing fields: 1, 16, 10."
+-- The calls on frames: reader, lag part, writer, normalised lag. Refusals "1 for N, then 13 .., 14 .., 15 .., 16 ..
+-- Normalising: 12 last. Writing fields: 1, 16, 10."
 use Prim.Native.Nat.{ℕ, _+_, _*_}
 use mathlib.Core.Bool.{Bool, cond, _&&_}
 use mathlib.Core.List.{List, [], _∷_, _++_}
@@ -91,7 +91,7 @@ writeLeaves n f zs out =
 abbrev pub quotient : ℤ → ℕ → Float
 quotient z count = div binary64 (ofInt binary64 z) (ofInt binary64 (pos count))
 
--- lag k of the words behind the mark, I and Q each divided by the centre count; "if that count is 0, no data"
+-- lag k of the words behind the mark, "I and Q each divided by the centre count"; "if that count is 0", no data
 abbrev pub normalOf : (body : List ℕ) (k : ℕ) → Answer
 normalOf ws k =
     cond (eqb (getD ws 3 0) 0)

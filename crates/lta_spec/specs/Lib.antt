@@ -9,7 +9,6 @@ pub mod Place
 pub mod Bytes
 pub mod Frame
 pub mod FrameCalls
-pub mod RoundTrip
 pub mod Call
 pub mod Machine
 pub mod Numbers
@@ -17,8 +16,12 @@ pub mod MachineRun
 pub mod Row
 pub mod Engine
 pub mod Damage
+pub mod Encoding
 pub mod Layout
 pub mod Memory
 pub mod Step
-pub mod Edges
+pub mod RoundTrip
 pub mod Demand
+pub mod WorkedRun
+pub mod Edges
+pub mod AnswerOrder

@@ -53,8 +53,8 @@ holdOpen l t c =
       losses = c .losses;
     }
 
--- "111: nothing. 100: Open goes to loss 1. 000, 001, 010: if Held is occupied, Open goes to loss 2; else Open and the
--- label go to Held."
+-- "111: nothing. 100: Open goes to loss 1. 000 (save), 001 (add), 010 (last): if Held is occupied, Open goes to loss 2;
+-- else Open and the label go to Held."
 unfoldable pub dumpBy : (nothing dropped occupied : Bool) → Label → (t : ℕ) → Cell Ticks → Result Ticks
 dumpBy true d o l t c = record { answer = 7; cell = c }
 dumpBy false true o l t c = record { answer = 1; cell = loseOpen ordered t c }

@@ -1,28 +1,62 @@
--- The two round trips of a frame, for every N, as one statement about the calls. proofs/RoundTrips.antt proves it.
+-- The two round trips of a frame, for every N, and the reading of an emitted frame, as one statement about the calls.
+-- proofs/RoundTrips.antt and proofs/EmittedBack.antt prove it.
 use Prim.Native.Nat.{ℕ, _≤_, _<_}
 use mathlib.Core.Path.{_≡_}
 use mathlib.Core.List.{List, map}
 use lib.IntN.{ℤ}
-use lib.ListN.{length, getD, take}
+use lib.ListN.{length, getD, take, drop}
 use Rattle.lta_spec.specs.Words.{splice}
 use Rattle.lta_spec.specs.Bytes.{wordsOf, signed}
 use Rattle.lta_spec.specs.Answer.Answer.{fields}
+use Rattle.lta_spec.specs.Place.{Stamped}
 use Rattle.lta_spec.specs.Frame.{accumulated, frameLength, bodyOf, fieldsOf, lagNumbers}
 use Rattle.lta_spec.specs.FrameCalls.{readVerdict, readAnswer, lagPart, writeVerdict, writeLeaves}
+use Rattle.lta_spec.specs.Call.{binIndex, emittedFields}
+use Rattle.lta_spec.specs.Call.Call.{emit}
+use Rattle.lta_spec.specs.Row.{ticksOf, edgeOf, centreOf, rowLags}
+use Rattle.lta_spec.specs.Engine.{Row, binAt}
+use Rattle.lta_spec.specs.Memory.{runL}
+use Rattle.lta_spec.specs.Step as S
 use Rattle.lta_spec.specs.declared.Fields.{Fields}
+use Rattle.lta_spec.specs.declared.Shape.{Shape}
 use Rattle.lta_spec.specs.declared.Verdict.the-variants.{Accepted}
 
 -- the bytes that an accepted write leaves at the start of its buffer
 abbrev pub writtenTo : (n : ℕ) → Fields → List ℤ → (out : List ℕ) → List ℕ
 writtenTo n f zs out = take (frameLength (f .kind) n) (writeLeaves n f zs out)
 
+-- the lag numbers in the lag part that the reader gives
+abbrev pub lagsRead : (n : ℕ) (frame : List ℕ) → List ℤ
+lagsRead n frame = map signed (wordsOf (lagPart n frame))
+
+-- the row and stamp of a bin of cell c in work memory
+abbrev pub storedBin : Shape → (c bank bin : ℕ) (mem : List ℕ) → Stamped Row
+storedBin sh c bank bin mem =
+    (binAt (sh .lags) (binIndex (sh .bins) bank bin) (S.cellAt sh c ((runL sh) .get mem))) .content
+
+-- the bytes that an emission leaves at the start of its buffer
+abbrev pub emittedTo : Shape → (c bank bin : ℕ) (mem out : List ℕ) → List ℕ
+emittedTo sh c bank bin mem out =
+    take (frameLength accumulated (sh .lags)) ((S.step sh (emit c bank bin out) mem) .out)
+
+-- a frame's bytes, read back, are a row and a stamp in numbers
+pub record RowBack (sh : Shape) (c bank bin : ℕ) (b : Stamped Row) (frame : List ℕ) : Type 0 where
+  pub told : readAnswer (sh .lags) frame
+      ≡ fields
+      (emittedFields sh c bank bin (b .stamp) (ticksOf (b .members)) (edgeOf (b .members)) (centreOf (b .members)))
+  pub lags : lagsRead (sh .lags) frame ≡ rowLags (ticksOf (b .members)) (drop 3 (b .members))
+
 pub record RoundTrip : Type 0 where
   -- a frame written and read back gives its fields, and its lag part the lag numbers
   pub fields-back : (n : ℕ) (f : Fields) (zs : List ℤ) (out : List ℕ) → writeVerdict n f zs (length out) ≡ Accepted
       → readAnswer n (writtenTo n f zs out) ≡ fields f
   pub lags-back : (n : ℕ) (f : Fields) (zs : List ℤ) (out : List ℕ) → writeVerdict n f zs (length out) ≡ Accepted
-      → map signed (wordsOf (lagPart n (writtenTo n f zs out))) ≡ zs
+      → lagsRead n (writtenTo n f zs out) ≡ zs
   -- an accepted frame, written again from what was read, gives its bytes
   pub bytes-back : (n : ℕ) (s out : List ℕ) → ((i : ℕ) → getD s i 0 < 256) → readVerdict n s ≡ Accepted
       → length s ≤ length out
       → writeLeaves n (fieldsOf (bodyOf s)) (lagNumbers accumulated n (bodyOf s)) out ≡ splice out 0 s
+  -- an emission that is accepted, whatever work memory holds: what is read back is what stood in the bin
+  pub emitted-back : (sh : Shape) (c bank bin : ℕ) (mem out : List ℕ)
+      → S.verdict sh mem (emit c bank bin out) ≡ Accepted
+      → RowBack sh c bank bin (storedBin sh c bank bin mem) (emittedTo sh c bank bin mem out)

@@ -64,7 +64,7 @@ rowSums k row =
 abbrev pub sumOk : (ticks stored : ℕ) → Bool
 sumOk ticks stored = leb stored (2 * peak * ticks)
 
--- 11: "ticks pass their limit, a count passes its ticks", or a sum its size
+-- 11: "ticks pass their limit .., a count passes its ticks", or a sum its size
 unfoldable pub rowOk : (limit : ℕ) → List ℕ → Bool
 rowOk limit row =
     leb (ticksOf row) limit

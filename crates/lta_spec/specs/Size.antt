@@ -1,4 +1,4 @@
--- "A call tells how many words of work memory a shape needs, by a formula of the builder's." Words are of 64 bits.
+-- "A call tells how many words of work memory .. a shape needs, by a formula of the builder's". Words are of 64 bits.
 use Prim.Native.Nat.{ℕ, _+_, _*_, _/_}
 use mathlib.Core.List.{List, [], _∷_}
 use lib.Dec.{eqb}

@@ -184,7 +184,7 @@ step sh call mem =
     (let d = accepted sh call ((runL sh) .get mem) in
     record { answer = d .answer; out = d .out; mem = (runL sh) .put (d .run) })
 
--- **Forecast**, "refused by 1, 2, 5, 11"
+-- **Forecast**, "Refused by 1, 2, 5, 11."
 abbrev pub forecastTests : Shape → (c : ℕ) → Run → List Test
 forecastTests sh c r = test (ltb c (sh .cells)) NoCell ∷ soundAt sh (forecastSound (r .t) (cellAt sh c r)) r ∷ []
 

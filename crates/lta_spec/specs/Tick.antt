@@ -16,8 +16,8 @@ pub record Entry : Type 0 where
 abbrev pub nibble : ℕ → ℤ
 nibble n = cond (ltb n 8) (pos n) (negsuc (15 - n))
 
--- "Low four bits: sample, two's complement, -7 to 7; 8h marks it invalid. High four bits: phase, 0 to 15, always
--- present."
+-- "Low four bits: sample, two's complement, -7 to 7; 8h marks it invalid (house). High four bits: phase, 0 to 15,
+-- always present."
 unfoldable pub fromByte : ℕ → Entry
 fromByte b = record { valid = not (eqb (b % 16) 8); sample = nibble (b % 16); phase = b / 16 % 16 }
 
@@ -51,13 +51,14 @@ turn x y = (x .phase + 16 - y .phase) % 16
 
 -- "Five-level table w for d = 0 to 15", the memo's five-level fringe stopping:
 -- 2, 2, 1, 1, 0, -1, -1, -2, -2, -2, -1, -1, 0, 1, 1, 2
-unfoldable pub weight : ℕ → ℤ
-weight d =
-    getD
-    (pos 2 ∷ pos 2 ∷ pos 1 ∷ pos 1 ∷ pos 0 ∷ negsuc 0 ∷ negsuc 0 ∷ negsuc 1
+abbrev pub weights : List ℤ
+weights =
+    pos 2 ∷ pos 2 ∷ pos 1 ∷ pos 1 ∷ pos 0 ∷ negsuc 0 ∷ negsuc 0 ∷ negsuc 1
     ∷ negsuc 1 ∷ negsuc 1 ∷ negsuc 0 ∷ negsuc 0 ∷ pos 0 ∷ pos 1 ∷ pos 1 ∷ pos 2
-    ∷ [])
-    d (pos 0)
+    ∷ []
+
+unfoldable pub weight : ℕ → ℤ
+weight d = getD weights d (pos 0)
 
 -- "I adds product × w(d) and Q adds product × w((d+12) mod 16)"
 unfoldable pub inPhase : (x y : Entry) → ℤ

@@ -1,5 +1,5 @@
 // Holds the calls on a run to document 01, by long lists of calls: every answer, frame and reading, and all words of
-// work memory, are compared with the plain machine of lta_rig, which knows sets of tick numbers and the sampler's
+// work memory, are compared with the plain machine of lta_machine, which knows sets of tick numbers and the sampler's
 // bytes alone.
 use frame_rig::report::counts;
 use frame_rig::report::failures;

@@ -1,2 +1,3 @@
--- The records of a script.
-pub mod Records
+-- The calls of a script.
+pub mod Calls
+pub mod Input

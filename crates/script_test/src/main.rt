@@ -1,45 +1,11 @@
-// Scripts held in memory, each on a fresh run: one script cut at every byte, marks that are unknown, and every refusal
-// and every loss that a script can meet.
+// Scripts held in memory, each on a fresh run: one script cut at every byte, marks that are unknown, every refusal and
+// every loss that a script can meet, and frames whose words tell signs, banks and data bins apart.
+use lines::field;
+use lines::text;
 use lta_spec::Started;
-use script::parse::next_in;
-use script::parse::size;
-use script::parse::two;
-use script::print::field;
-use script::print::text;
+use records::head;
+use script::input::run_bytes;
 use script::shape;
-use script::turn;
-
-// The bytes from `at` on.
-fn tail(s: &[u8], at: usize) -> &[u8] {
-    if at <= s.len() { &s[at..] } else { &s[0..0] }
-}
-
-// The first n bytes.
-fn head(s: &[u8], n: usize) -> &[u8] {
-    if n <= s.len() { &s[0..n] } else { s }
-}
-
-// Where the record behind the one at `at` starts.
-fn behind(s: &[u8], at: usize) -> usize {
-    let t = tail(s, at);
-    if t.len() < 2 {
-        return s.len();
-    }
-    if at > s.len() {
-        return s.len();
-    }
-    at + size(two(t[0], t[1]))
-}
-
-// Every record of a script, which has fewer than 100.
-fn play_all(mem: &mut [u64], s: &[u8]) {
-    let mut at: usize = 0;
-    let mut turns: u64 = 100;
-    while turns > 0 && turn(&mut *mem, next_in(tail(s, at))) {
-        at = behind(s, at);
-        turns -= 1;
-    }
-}
 
 // A script on a fresh run.
 fn play(s: &[u8]) {
@@ -47,7 +13,7 @@ fn play(s: &[u8]) {
     let Started::Fresh = lta::setup(shape(), &mut mem) else {
         return;
     };
-    play_all(&mut mem, s);
+    run_bytes(&mut mem, s);
 }
 
 // A script under the line that says how many bytes it has.
@@ -76,6 +42,13 @@ fn marks() {
     show(b"IN\x00\x00IN\x00");
     show(b"\x00\x00");
     show(b"DE\x00\x00\x00\x00\x00\x00");
+}
+
+// A letter alone, at the front and behind a record: it is a cut record and no end.
+fn lone_letters() {
+    show(b"T");
+    show(b"IN\x00E");
+    show(b"EM\x00\x00\x00\x00I");
 }
 
 // Dumps that are refused: 5, then 6, then 7, each also where the next applies.
@@ -113,10 +86,30 @@ fn losses() {
     );
 }
 
+// Four negative lag numbers, all different: the last Q is signed as the others, and the sum behind it is not.
+fn signs() {
+    show(
+        b"TK\x17\x65TK\x13\x62TK\x05\x31TK\x02\x47DP\x00\x02\x00\x00\x00\x00IN\x00EM\x00\x00\x00\x00",
+    );
+}
+
+// Bank 1 with data bin 0, then bank 0 with data bin 1: the other of the two is not Ready.
+fn banks() {
+    show(
+        b"TK\x01\x01DP\x00\x02\x01\x00\x00\x00IN\x00EM\x00\x00\x01\x00EM\x00\x01\x00\x00EM\x00\x01\x00\x00",
+    );
+    show(
+        b"TK\x01\x01DP\x00\x02\x00\x01\x00\x00IN\x00EM\x00\x01\x00\x00EM\x00\x00\x01\x00EM\x00\x00\x01\x00",
+    );
+}
+
 fn main() {
     cuts();
     marks();
+    lone_letters();
     dumps();
     takers();
     losses();
+    signs();
+    banks();
 }

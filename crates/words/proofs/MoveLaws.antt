@@ -6,7 +6,21 @@ use Prim.Native.Nat.{ℕ, zero, suc, _+_, _<_, _≤_}
 use native.Mathlib.Omega.{arith}
 use lib.ListN.{length, getD, set}
 use Rattle.lta_spec.specs.Words.{part, splice, sums, zeros}
-use Rattle.lta_spec.proofs.WordLaws.{splice-nil, length-splice, getD-splice-before, getD-splice-after, set-splice-next, set-splice-before, set-splice-after, length-sums, sums-next, length-zeros, length-part, part-next, part-zero}
+use Rattle.lta_spec.proofs.WordLaws.{
+  splice-nil,
+  length-splice,
+  getD-splice-before,
+  getD-splice-after,
+  set-splice-next,
+  set-splice-before,
+  set-splice-after,
+  length-sums,
+  sums-next,
+  length-zeros,
+  length-part,
+  part-next,
+  part-zero,
+}
 use Rattle.words.specs.Moves.{folded}
 
 zeros-next : (n : ℕ) → zeros n ++ 0 ∷ [] ≡ zeros (suc n)

@@ -4,9 +4,9 @@ use native.Mathlib.Omega.{arith}
 use denote.Ref.{now}
 use Rattle.lta_spec.specs.Call.{emittedFields}
 use Rattle.lta_spec.proofs.ShapeLaws.{Shaped, shaped}
-use Rattle.lta_spec.proofs.RoundTrips.{Valid}
+use Rattle.lta_spec.proofs.RoundTrips.{Valid, fields-ok}
 use Rattle.emission.specs.Emits.{fieldsFrom}
-use Rattle.emission.proofs.Laws.{sent, fields-ok}
+use Rattle.emission.proofs.Laws.{sent}
 use borrow.Author.Needs.{needs}
 use Rattle.emission.proofs.emitted_fields.Statement.{statement}
 use Rattle.emission.proofs.emitted_fields.Tie as tie

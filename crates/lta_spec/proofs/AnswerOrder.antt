@@ -1,0 +1,37 @@
+-- The order of the refusals: each row is computed.
+use mathlib.Core.Path.{refl}
+use Rattle.lta_spec.specs.Words.{part}
+use Rattle.lta_spec.specs.Shape.{lagCountOk, shapeOk}
+use Rattle.lta_spec.specs.Size.{memoryWords, hostTests}
+use Rattle.lta_spec.specs.Frame.{fieldsOf, fixedOk, fieldsOk}
+use Rattle.lta_spec.specs.FrameCalls.{marked, summed, ruled, readVerdict, writeVerdict, normalVerdict}
+use Rattle.lta_spec.specs.Call.{commandOk, dataBinOk, emittedFields}
+use Rattle.lta_spec.specs.Row.{rowOk}
+use Rattle.lta_spec.specs.Engine as E
+use Rattle.lta_spec.specs.Damage as D
+use Rattle.lta_spec.specs.Layout.{word, block, pair, many, fields}
+use Rattle.lta_spec.specs.Memory.{binL, unitL, runL}
+use Rattle.lta_spec.specs.Step as S
+use Rattle.lta_spec.specs.AnswerOrder.{Orders}
+
+pub orders : Orders
+unfolding
+    lagCountOk shapeOk memoryWords hostTests part fieldsOf fixedOk fieldsOk marked summed ruled readVerdict
+    writeVerdict normalVerdict emittedFields commandOk dataBinOk rowOk E.binAt E.hasRoom D.lossesOk D.tickSound
+    D.dumpHolds D.dumpParts D.dumpSound D.integrateHolds D.integrateBinSound D.integrateSound D.emitSound word block
+    pair many fields binL unitL runL S.unitsSound S.verdict S.step
+orders =
+    record {
+      sampler = refl;
+      sampler-last = refl;
+      commander = refl;
+      commander-last = refl;
+      integrator = refl;
+      integrator-last = refl;
+      taker = refl;
+      taker-last = refl;
+      reader = refl;
+      sender = refl;
+      normaliser = refl;
+      writer = refl;
+    }

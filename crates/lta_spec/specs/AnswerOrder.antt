@@ -1,0 +1,77 @@
+-- Document 01, "Who may be told no": "Where several apply, the order stands after each group." Rows of calls to which
+-- several apply: on forged work memory, since demand 3 never meets 11, and on frames. proofs/AnswerOrder.antt proves
+-- them.
+use Prim.Native.Nat.{ℕ, _+_}
+use mathlib.Core.Path.{_≡_}
+use mathlib.Core.List.{List, [], _∷_, _++_, map}
+use lib.IntN.{pos}
+use lib.ListN.{replicate}
+use Rattle.lta_spec.specs.Shape.{runLimit}
+use Rattle.lta_spec.specs.Place.{Held, Cell}
+use Rattle.lta_spec.specs.Bytes.{bytesOf}
+use Rattle.lta_spec.specs.Frame.{mark}
+use Rattle.lta_spec.specs.FrameCalls.{readAnswer, writeAnswer, normalAnswer}
+use Rattle.lta_spec.specs.Call.{Call, emittedFields}
+use Rattle.lta_spec.specs.Call.Call.{tick, dump, integrate, emit, reading}
+use Rattle.lta_spec.specs.Answer.{Answer}
+use Rattle.lta_spec.specs.Answer.Answer.{refused}
+use Rattle.lta_spec.specs.Engine.{Row, freshUnit}
+use Rattle.lta_spec.specs.Memory.{runL}
+use Rattle.lta_spec.specs.Step.{step}
+use Rattle.lta_spec.specs.Edges.{scriptShape, scriptFrame}
+use Rattle.lta_spec.specs.declared.Fields.{Fields}
+
+-- a fresh run of the script's shape but for t, Held's flag and the newest entry of X's register
+abbrev pub forged : (t flag entry : ℕ) → List ℕ
+forged t flag entry =
+    let u = freshUnit (scriptShape .lags) (scriptShape .bins) in
+    let c = u .cell in
+    let held : Held Row = record { occupied = flag; label = c .held .label; content = c .held .content } in
+    let cell : Cell Row = record { opened = c .opened; held = held; bins = c .bins; losses = c .losses } in
+    (runL scriptShape) .put
+    (record { t = t; units = record { cell = cell; xs = entry ∷ 0 ∷ []; ys = u .ys } ∷ [] })
+
+-- what each call is told on the same work memory
+abbrev pub told : (mem : List ℕ) → List Call → List Answer
+told mem calls = map (λ call. (step scriptShape call mem) .answer) calls
+
+abbrev pub refusals : List ℕ → List Answer
+refusals ks = map refused ks
+
+-- the bytes of a frame of zeros with so much for its sum
+abbrev pub zeroFrame : (sum : ℕ) → List ℕ
+zeroFrame sum = mark ++ bytesOf (replicate 11 0 ++ sum ∷ [])
+
+-- the fields of a frame without ticks
+abbrev pub noTicks : Fields
+noTicks = emittedFields scriptShape 0 0 0 0 0 0 0
+
+pub record Orders : Type 0 where
+  -- "3 .. 4 .. Then 11": the run is full, and 256 is no entry of a register
+  pub sampler : told (forged runLimit 0 256) (tick (0 ∷ []) ∷ tick (0 ∷ 0 ∷ []) ∷ []) ≡ refusals (3 ∷ 4 ∷ [])
+  pub sampler-last : told (forged 0 0 256) (tick (0 ∷ []) ∷ tick (0 ∷ 0 ∷ []) ∷ []) ≡ refusals (3 ∷ 11 ∷ [])
+  -- "Order 5, 6, 7, 11, for every command": t is too high; then a flag of 2
+  pub commander : told (forged (runLimit + 1) 0 0)
+      (dump 1 3 2 0 0 ∷ dump 0 3 2 0 0 ∷ dump 0 2 2 0 0 ∷ dump 0 4 2 0 0 ∷ dump 0 7 2 0 0 ∷ [])
+      ≡ refusals (5 ∷ 6 ∷ 7 ∷ 7 ∷ 7 ∷ [])
+  pub commander-last : told (forged 0 2 0) (dump 0 2 0 0 0 ∷ dump 0 4 0 0 0 ∷ dump 0 7 0 0 0 ∷ [])
+      ≡ refusals (11 ∷ 11 ∷ 11 ∷ [])
+  -- "Order 5, 11, then 8"
+  pub integrator : told (forged (runLimit + 1) 0 0) (integrate 1 ∷ integrate 0 ∷ []) ≡ refusals (5 ∷ 11 ∷ [])
+  pub integrator-last : told (forged 0 2 0) (integrate 0 ∷ []) ≡ refusals (11 ∷ [])
+  -- "Order 5, 7 .., 11, 9 .., 10": t is too high; then no bin is Ready, and the buffer is empty
+  pub taker : told (forged (runLimit + 1) 0 0) (emit 1 2 0 [] ∷ emit 0 2 0 [] ∷ emit 0 0 0 [] ∷ [])
+      ≡ refusals (5 ∷ 7 ∷ 11 ∷ [])
+  pub taker-last : told (forged 0 0 0) (emit 0 0 0 [] ∷ []) ≡ refusals (9 ∷ [])
+  -- "5, 12 .., 11"
+  pub reader : told (forged (runLimit + 1) 0 0) (reading 1 2 0 ∷ reading 0 2 0 ∷ reading 0 0 1 ∷ [])
+      ≡ refusals (5 ∷ 12 ∷ 11 ∷ [])
+  -- "1 for N, then 13 .., 14 .., 15 .., 16"; "Normalising: 12 last"
+  pub sender : readAnswer 3 [] ∷ map (readAnswer 2) ([] ∷ replicate 50 0 ∷ zeroFrame 1 ∷ zeroFrame 0 ∷ [])
+      ≡ refusals (1 ∷ 13 ∷ 14 ∷ 15 ∷ 16 ∷ [])
+  pub normaliser : normalAnswer 2 (zeroFrame 0) 2 ∷ normalAnswer 2 scriptFrame 2 ∷ [] ≡ refusals (16 ∷ 12 ∷ [])
+  -- "Writing fields: 1, 16, 10"
+  pub writer : writeAnswer 3 noTicks [] 0
+      ∷ writeAnswer 2 noTicks [] 0
+      ∷ writeAnswer 2 noTicks (replicate 4 (pos 0)) 0
+      ∷ [] ≡ refusals (1 ∷ 16 ∷ 10 ∷ [])

@@ -1,0 +1,107 @@
+-- The invariant is `ReadOn`; the measure is the number of turns that are left.
+use mathlib.Core.Path.{_≡_, refl}
+use native.Mathlib.Omega.{arith}
+use denote.Ref.{now}
+use lib.ListN.{length}
+use borrow.Author.Needs.{needs}
+use Rattle.script.specs.Input.{ReadOn}
+use Rattle.script.proofs.InputLaws.{nothing-read, none-came, block-read}
+use Rattle.script.proofs.input.run_blocks.Statement.{statement}
+use Rattle.script.proofs.input.run_blocks.Tie as tie
+
+abbrev Inv-loop : tie.InvT-loop
+Inv-loop fd mem₀ block₀ kept₀ turns₀ mem block kept turns =
+    ReadOn mem₀ mem kept block × (length mem ≡ length mem₀) × (length block ≡ length block₀)
+
+abbrev μ-loop : tie.MeasureT-loop
+μ-loop fd mem₀ block₀ kept₀ turns₀ mem block kept turns = turns
+
+loop-holds : tie.Need-loop-holds Inv-loop μ-loop
+loop-holds c = (nothing-read _ _, refl, refl)
+
+fill-requires : tie.Need-fill-requires Inv-loop μ-loop
+fill-requires c κs = c .before .before .loop .inv .0 .left .inside
+
+same-length : tie.Need-same-length Inv-loop μ-loop
+same-length c = search needs
+
+same-length-2 : tie.Need-same-length-2 Inv-loop μ-loop
+same-length-2 c = search needs
+
+returns : tie.Need-returns Inv-loop μ-loop
+returns c =
+    let fill = c .before .before .before in
+    let loop = fill .before .before .before in
+    none-came _ _ _ _ _ _ (loop .loop .inv .0) (fill .fill .ensures)
+
+run-block-requires : tie.Need-run-block-requires Inv-loop μ-loop
+run-block-requires c κs = c .before .before .before .before .before .fill .ensures .inside
+
+head-requires : tie.Need-head-requires Inv-loop μ-loop
+head-requires c κs = tt
+
+unknown-mark-requires : tie.Need-unknown-mark-requires Inv-loop μ-loop
+unknown-mark-requires c κs = tt
+
+-- the records of one block more
+one-more : (c : tie.After-run-block Inv-loop μ-loop)
+    → let start = c .before .before .before .before .before .before .before .before .before .before .before .before in
+    ReadOn (now (start .args .mem)) (c .run-block .last .0) (c .run-block .result) (c .run-block .last .1 .0)
+one-more c =
+    let fill = c .before .before .before .before .before .before in
+    let loop = fill .before .before .before in
+    let e = c .run-block .ensures in
+    block-read _ _ _ _ _ _ (loop .loop .inv .0) (fill .fill .ensures) _ _ _ (e .0) (e .1)
+
+same-length-3 : tie.Need-same-length-3 Inv-loop μ-loop
+same-length-3 c = search needs
+
+same-length-4 : tie.Need-same-length-4 Inv-loop μ-loop
+same-length-4 c = search needs
+
+returns-2 : tie.Need-returns-2 Inv-loop μ-loop
+returns-2 c = one-more (c .before .before .before .before .before .before .before .before)
+
+sub-turns : tie.Need-sub-turns Inv-loop μ-loop
+sub-turns c = omega arith
+
+loop-less : tie.Need-loop-less Inv-loop μ-loop
+loop-less c = omega arith
+
+loop-again : tie.Need-loop-again Inv-loop μ-loop
+loop-again c =
+    let run = c .before .before .before .before .before .before .before .before in
+    (one-more run, search needs, search needs)
+
+same-length-5 : tie.Need-same-length-5 Inv-loop μ-loop
+same-length-5 c = search needs
+
+same-length-6 : tie.Need-same-length-6 Inv-loop μ-loop
+same-length-6 c = search needs
+
+returns-3 : tie.Need-returns-3 Inv-loop μ-loop
+returns-3 c = c .before .loop .inv .0
+
+pub run-blocks-spec : {M : Type 1} → statement M
+run-blocks-spec =
+    tie.close
+    (tie.spec
+    Inv-loop
+    μ-loop
+    loop-holds
+    fill-requires
+    same-length
+    same-length-2
+    returns
+    run-block-requires
+    head-requires
+    unknown-mark-requires
+    same-length-3
+    same-length-4
+    returns-2
+    sub-turns
+    loop-less
+    loop-again
+    same-length-5
+    same-length-6
+    returns-3)

@@ -1,0 +1,81 @@
+//! Lists with one change: each is seen.
+use std::collections::BTreeMap;
+
+use crate::list::run;
+use crate::{LINES, LIST};
+
+/// Another word of the same length.
+fn other_word(word: &str) -> String {
+    let (front, last) = word.split_at(word.len() - 1);
+    let other = match last.as_bytes()[0] {
+        b'9' => '8',
+        b'f' => 'e',
+        digit => char::from(digit + 1),
+    };
+    format!("{front}{other}")
+}
+
+/// The line with another answer: each word changed in turn, or a forecast that is above, below or refused.
+fn other_answers(line: &str) -> Vec<String> {
+    let Some((call, listed)) = line.split_once(" = ") else {
+        return Vec::new();
+    };
+    let words: Vec<&str> = listed.split(' ').collect();
+    if let (true, ["0", _, high]) = (call.starts_with("forecast"), &words[..]) {
+        let others = [format!("0 {high}9 {high}9"), "0 0 0".to_string(), "5".to_string()];
+        return others.map(|other| format!("{call} = {other}")).to_vec();
+    }
+    let changed = |at: usize| {
+        let mut words: Vec<String> = words.iter().map(|word| word.to_string()).collect();
+        words[at] = other_word(&words[at]);
+        format!("{call} = {}", words.join(" "))
+    };
+    (0..words.len()).map(changed).collect()
+}
+
+/// Every word of every answer: the line that is changed is at fault, and no other.
+#[test]
+fn every_other_answer_is_seen() {
+    let lines: Vec<&str> = LIST.lines().collect();
+    let mut changes = 0;
+    for (at, line) in lines.iter().enumerate() {
+        for other in other_answers(line) {
+            let list = [&lines[..at], &[other.as_str()], &lines[at + 1..]].concat().join("\n");
+            let faults: Vec<usize> = run(&list).faults.iter().map(|(number, _)| *number).collect();
+            assert_eq!(faults, [at + 1], "{other}");
+            changes += 1;
+        }
+    }
+    println!("vectors: {changes} other answers, each seen");
+    assert!(changes > LIST.lines().count());
+}
+
+/// A part of the list, and another in its first place: heads, calls and arguments that are none, a missing answer, a
+/// buffer too short, lengths, a run that is not set up, lines that are missing or too many.
+const CHANGES: [(&str, &str); 14] = [
+    ("level ", "level 1"),
+    ("shape 2 ", "shape 1 "),
+    (" 100 1\n", " 100 2\n"),
+    ("bound 6400\n", "bound 64\n"),
+    ("setup = 0\n", ""),
+    ("\ntick ", "\ntock "),
+    ("\ntick ", "\ntick 0"),
+    ("\nintegrate - ", "\nintegrate 0 "),
+    (" = 0 0\n", "\n"),
+    (" 66 = 0 66 ", " 65 = 0 66 "),
+    (" 100 1 0 need = 1\n", " 100 1 99 need = 1\n"),
+    (" 100 1 0 need = 1\n", " 100 1 need = 1\n"),
+    ("\nend\n", "\n"),
+    ("\nend\n", "\nend\nend\n"),
+];
+
+#[test]
+fn every_other_list_is_seen() {
+    for (part, other) in CHANGES {
+        let list = LIST.replacen(part, other, 1);
+        assert!(list != LIST, "{part} is not in the list");
+        let report = run(&list);
+        let passes = report.faults.is_empty() && report.passed == BTreeMap::from(LINES);
+        assert!(!passes, "{other} in place of {part}");
+    }
+}
