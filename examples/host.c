@@ -8,17 +8,19 @@
 
 #include "lta.h"
 
-enum { CELLS = 2, LAGS = 16, BINS = 4, SHAPE = 7, DELAY = 2, DISCARDED = 100, TICKS = 4000, FRAME = 34 + 8 * LAGS };
-enum { LAST = 2, DISCARD = 4, ORDERED = 1, NOTHING_HELD = 8 };
+enum { CELLS = 2, LAGS = 16, DELAY = 2, DISCARDED = 100, TICKS = 4000 };
 
-static const uint64_t shape[SHAPE] = {CELLS, LAGS, BINS, 1, 0, 1000, 1000};
+static const uint64_t shape[LTA_SHAPE_LEN] = {
+    [LTA_SHAPE_CELLS] = CELLS, [LTA_SHAPE_LAGS] = LAGS, [LTA_SHAPE_BINS] = 4,      [LTA_SHAPE_BLOCKS] = 1,
+    [LTA_SHAPE_START] = 0,     [LTA_SHAPE_RATE] = 1000, [LTA_SHAPE_SECOND] = 1000,
+};
 
 static uint64_t *mem;
 static size_t words;
 
 /* The answer of a call that must be accepted. */
 static uint32_t accepted(const char *what, uint64_t result) {
-    if (LTA_REFUSAL(result) != 0) {
+    if (LTA_REFUSAL(result) != LTA_REFUSAL_NONE) {
         fprintf(stderr, "%s was refused by %" PRIu32 "\n", what, LTA_REFUSAL(result));
         exit(1);
     }
@@ -51,7 +53,7 @@ static void feed(int ticks) {
         late[at % DELAY] = x;
         at++;
         uint8_t samples[2 * CELLS] = {x, y, x, at % 2 ? y : 8};
-        accepted("a tick", lta_tick(shape, SHAPE, mem, words, samples, sizeof samples));
+        accepted("a tick", lta_tick(shape, LTA_SHAPE_LEN, mem, words, samples, sizeof samples));
     }
 }
 
@@ -60,12 +62,12 @@ static void show_lags(const uint8_t *frame, size_t length) {
     double most = -1;
     printf("  lag  delay      real      imag\n");
     for (int k = 0; k < LAGS; k++) {
-        double pair[2];
-        uint64_t result = lta_normalised_lag(LAGS, frame, length, (uint64_t)k, pair, 2);
+        double pair[LTA_PAIR_LEN];
+        uint64_t result = lta_normalised_lag(LAGS, frame, length, (uint64_t)k, pair, LTA_PAIR_LEN);
         expect("data in the frame", accepted("a normalised lag", result) == 1);
-        printf("  %3d  %5d  %8.3f  %8.3f\n", k, k - LAGS / 2, pair[0], pair[1]);
-        if (pair[0] > most) {
-            most = pair[0];
+        printf("  %3d  %5d  %8.3f  %8.3f\n", k, k - LAGS / 2, pair[LTA_PAIR_REAL], pair[LTA_PAIR_IMAGINARY]);
+        if (pair[LTA_PAIR_REAL] > most) {
+            most = pair[LTA_PAIR_REAL];
             peak = k;
         }
     }
@@ -75,48 +77,49 @@ static void show_lags(const uint8_t *frame, size_t length) {
 }
 
 static void show_frame(uint64_t cell) {
-    uint8_t frame[FRAME];
-    uint32_t fields[10];
-    uint64_t result = lta_emit(shape, SHAPE, mem, words, cell, 0, 0, frame, sizeof frame);
+    uint8_t frame[LTA_FRAME_LEN(LAGS)];
+    uint32_t head[LTA_HEAD_LEN];
+    uint64_t result = lta_emit(shape, LTA_SHAPE_LEN, mem, words, cell, 0, 0, frame, sizeof frame);
     uint32_t length = accepted("an emission", result);
-    expect("the length of a frame", length == FRAME);
-    accepted("reading the frame", lta_read_frame(LAGS, frame, length, fields, 10));
-    printf("cell %" PRIu32 ": %" PRIu32 " ticks, %" PRIu32 " valid at the centre, second %" PRIu32 "\n", fields[1],
-           fields[5], fields[6], fields[8]);
+    expect("the length of a frame", length == sizeof frame);
+    accepted("reading the frame", lta_read_frame(LAGS, frame, length, head, LTA_HEAD_LEN));
+    printf("cell %" PRIu32 ": %" PRIu32 " ticks, %" PRIu32 " valid at the centre, second %" PRIu32 "\n",
+           head[LTA_HEAD_CELL], head[LTA_HEAD_TICKS], head[LTA_HEAD_CENTRE], head[LTA_HEAD_SECOND]);
     show_lags(frame, length);
 }
 
 static void show_loss(uint64_t cell) {
-    int64_t sums[2];
-    uint64_t counts[3];
-    uint64_t result = lta_reading(shape, SHAPE, mem, words, cell, LAGS / 2, ORDERED, sums, 2, counts, 3);
-    accepted("a reading", result);
+    int64_t sums[LTA_SUMS_LEN];
+    uint64_t counts[LTA_COUNTS_LEN];
+    accepted("a reading", lta_reading(shape, LTA_SHAPE_LEN, mem, words, cell, LAGS / 2, LTA_LOSS_ORDERED, sums,
+                                      LTA_SUMS_LEN, counts, LTA_COUNTS_LEN));
     printf("cell %" PRIu64 ", loss 1: %" PRIu64 " ticks, at the centre I %" PRId64 ", Q %" PRId64 "\n", cell,
-           counts[0], sums[0], sums[1]);
-    expect("the ticks of the loss", counts[0] == DISCARDED);
+           counts[LTA_COUNTS_TICKS], sums[LTA_SUMS_I], sums[LTA_SUMS_Q]);
+    expect("the ticks of the loss", counts[LTA_COUNTS_TICKS] == DISCARDED);
 }
 
 int main(void) {
-    words = accepted("the size", lta_words_needed(shape, SHAPE));
+    words = accepted("the size", lta_words_needed(shape, LTA_SHAPE_LEN));
     mem = malloc(words * sizeof *mem);
     expect("memory", mem != NULL);
-    accepted("setup", lta_setup(shape, SHAPE, mem, words));
+    accepted("setup", lta_setup(shape, LTA_SHAPE_LEN, mem, words));
     feed(DISCARDED);
     for (uint64_t cell = 0; cell < CELLS; cell++) {
-        uint64_t result = lta_dump(shape, SHAPE, mem, words, cell, DISCARD, 0, 0, 0);
-        expect("what was open goes to loss 1", accepted("a dump", result) == ORDERED);
+        uint64_t result = lta_dump(shape, LTA_SHAPE_LEN, mem, words, cell, LTA_COMMAND_DISCARD, 0, 0, 0);
+        expect("what was open goes to loss 1", accepted("a dump", result) == LTA_LOSS_ORDERED);
     }
     feed(TICKS);
     for (uint64_t cell = 0; cell < CELLS; cell++) {
-        uint64_t result = lta_dump(shape, SHAPE, mem, words, cell, LAST, 0, 0, 0);
-        expect("what was open is held", accepted("a dump", result) == 0);
-        expect("it is kept", accepted("an integration", lta_integrate(shape, SHAPE, mem, words, cell)) == 0);
+        uint64_t result = lta_dump(shape, LTA_SHAPE_LEN, mem, words, cell, LTA_COMMAND_LAST, 0, 0, 0);
+        expect("what was open is held", accepted("a dump", result) == LTA_MOVED_KEPT);
+        result = lta_integrate(shape, LTA_SHAPE_LEN, mem, words, cell);
+        expect("it is kept", accepted("an integration", result) == LTA_MOVED_KEPT);
         show_frame(cell);
     }
     show_loss(1);
-    uint32_t refusal = LTA_REFUSAL(lta_integrate(shape, SHAPE, mem, words, 0));
+    uint32_t refusal = LTA_REFUSAL(lta_integrate(shape, LTA_SHAPE_LEN, mem, words, 0));
     printf("an integration with nothing held is refused by %" PRIu32 "\n", refusal);
-    expect("refusal 8", refusal == NOTHING_HELD);
+    expect("refusal 8", refusal == LTA_REFUSAL_NOTHING_HELD);
     free(mem);
     return 0;
 }

@@ -1,11 +1,24 @@
-/* The lag engine and its long-term accumulator, proved, for programs in C.
+/* The lag engine and its long-term accumulator, proved, for programs in C and C++.
  *
  * A result is one 64-bit number: LTA_REFUSAL of it is the refusal number, 0 where the call was accepted, and
  * LTA_ANSWER of it the answer. A refused call changes nothing. Any numbers, and any pointer with the length of what it
- * points to, may be passed; the parts lent to one call must not overlap. A pointer that comes with length 0 may be null.
+ * points to, may be passed; the parts lent to one call must not overlap. A pointer that comes with length 0 may be
+ * null.
  *
- * A shape is seven numbers: cells, lags, bins, blocks, start, rate, second (C, N, B, M, S, R, Z). Where another count
- * than seven is lent, it is refused by 1. mem is the run's work memory, which the host owns.
+ * Lengths count numbers of what is pointed to, not bytes: mem_len is a number of 64-bit words, and memory of mem_len
+ * words has mem_len * sizeof(uint64_t) bytes.
+ *
+ * Memory. mem is the run's work memory, which the host owns. All of a run is in its words; the library keeps nothing
+ * between calls, allocates nothing and starts nothing. Nothing else writes the words between the calls of a run.
+ *
+ * Threads. Calls on different memory may run at the same time. Calls on the same memory come one at a time, except that
+ * calls that take it as const, lta_reading and lta_forecast, may run at the same time as each other. The same holds for
+ * the other parts lent: what one call may write, no other call reads or writes meanwhile.
+ *
+ * Saving. Between calls the words may be kept on disc and lent again later, with the same shape, by the same program or
+ * another on a machine of the same byte order. They are to be written whole, in a new file that then gets the name of
+ * the old one: refusal 11 finds words that are out of their limits, and a copy half old and half new can be within
+ * them.
  */
 #ifndef LTA_H
 #define LTA_H
@@ -14,13 +27,112 @@
 #include <stdint.h>
 
 #ifdef __cplusplus
+#define LTA_U32(number) (static_cast<uint32_t>(number))
 extern "C" {
+#else
+#define LTA_U32(number) ((uint32_t)(number))
 #endif
 
-#define LTA_REFUSAL(result) ((uint32_t)((result) >> 32))
-#define LTA_ANSWER(result) ((uint32_t)(result))
+#define LTA_VERSION_MAJOR 0
+#define LTA_VERSION_MINOR 1
+#define LTA_VERSION_PATCH 0
+#define LTA_VERSION (LTA_VERSION_MAJOR * 1000000 + LTA_VERSION_MINOR * 1000 + LTA_VERSION_PATCH)
 
-/* The words of work memory that a shape needs.
+/* The parts of a result. */
+#define LTA_REFUSAL(result) LTA_U32((result) >> 32)
+#define LTA_ANSWER(result) LTA_U32(result)
+
+/* Refusals. Where several apply, a call gives the first in the order that stands with it. */
+enum lta_refusal {
+    LTA_REFUSAL_NONE = 0,          /* the call was accepted */
+    LTA_REFUSAL_BAD_SHAPE = 1,     /* a shape value out of its limits, or not seven of them */
+    LTA_REFUSAL_WRONG_MEMORY = 2,  /* work memory not exactly the needed length */
+    LTA_REFUSAL_WRONG_SAMPLES = 3, /* not 2C bytes */
+    LTA_REFUSAL_RUN_FULL = 4,      /* the run has had 2,147,483,648 ticks */
+    LTA_REFUSAL_NO_CELL = 5,       /* no such cell */
+    LTA_REFUSAL_BAD_COMMAND = 6,   /* command 3, 5, 6 or above 7 */
+    LTA_REFUSAL_NO_BIN = 7,        /* bank not 0 or 1, the data bin rule broken, or a data bin not below B */
+    LTA_REFUSAL_NOTHING_HELD = 8,  /* Held unoccupied */
+    LTA_REFUSAL_NOT_READY = 9,     /* bin not Ready */
+    LTA_REFUSAL_SHORT_BUFFER = 10, /* room for less than what the call would write */
+    LTA_REFUSAL_DAMAGED = 11,      /* a word of work memory is as no call leaves it */
+    LTA_REFUSAL_NO_LAG = 12,       /* no such lag or loss */
+    LTA_REFUSAL_WRONG_LENGTH = 13, /* a frame of the wrong length */
+    LTA_REFUSAL_WRONG_MARK = 14,   /* a frame with the wrong mark */
+    LTA_REFUSAL_WRONG_SUM = 15,    /* a frame with the wrong last word */
+    LTA_REFUSAL_BAD_FIELD = 16,    /* a field of a frame breaks its rule */
+    LTA_REFUSAL_BAD_RECORD = 17    /* of scripts alone: unknown mark or a cut record */
+};
+
+/* A shape is seven numbers, in this order: C, N, B, M, S, R, Z. */
+#define LTA_SHAPE_LEN 7
+enum lta_shape {
+    LTA_SHAPE_CELLS = 0,  /* C: cells, 1 to 16 */
+    LTA_SHAPE_LAGS = 1,   /* N: lags of a cell, even, 2 to 128 */
+    LTA_SHAPE_BINS = 2,   /* B: data bins of each of the two banks, 1 to 1,000 */
+    LTA_SHAPE_BLOCKS = 3, /* M: recirculation blocks, 1 to 256 */
+    LTA_SHAPE_START = 4,  /* S: the start block; S + M at most 256 */
+    LTA_SHAPE_RATE = 5,   /* R: ticks of a second, 1 to 256,000,000 */
+    LTA_SHAPE_SECOND = 6  /* Z: the second in which the run starts, 0 to 2,147,483,647 */
+};
+#define LTA_CELLS_MOST 16
+#define LTA_LAGS_MOST 128
+
+/* The commands of a dump. */
+enum lta_command {
+    LTA_COMMAND_SAVE = 0,    /* 000: hold what is open, to replace what its bin has */
+    LTA_COMMAND_ADD = 1,     /* 001: hold what is open, to join its bin */
+    LTA_COMMAND_LAST = 2,    /* 010: hold what is open, to join its bin and make it Ready */
+    LTA_COMMAND_DISCARD = 4, /* 100: what is open goes to loss 1 */
+    LTA_COMMAND_IDLE = 7     /* 111: nothing */
+};
+
+/* The answers of a dump or an integration besides the losses. */
+enum lta_moved {
+    LTA_MOVED_KEPT = 0, /* the set is kept */
+    LTA_MOVED_IDLE = 7  /* command 7: nothing was to do */
+};
+
+/* The losses of a cell; of them a dump or an integration answers the one that took a set. */
+enum lta_loss {
+    LTA_LOSS_ORDERED = 1,  /* discarded by command 4 */
+    LTA_LOSS_OVERRUN = 2,  /* dumped while Held was occupied */
+    LTA_LOSS_FULL = 3,     /* integrated into a Ready bin */
+    LTA_LOSS_REPLACED = 4, /* replaced in its bin by command 0 */
+    LTA_LOSS_WIDE = 5,     /* the joint set would have had more than 16,777,215 ticks */
+    LTA_LOSS_HOLDOFF = 6   /* ticks that came while Open was full */
+};
+
+/* What a reading gives. */
+#define LTA_SUMS_LEN 2
+enum lta_sums { LTA_SUMS_I = 0, LTA_SUMS_Q = 1 };
+#define LTA_COUNTS_LEN 3
+enum lta_counts { LTA_COUNTS_TICKS = 0, LTA_COUNTS_EDGE = 1, LTA_COUNTS_CENTRE = 2 };
+
+/* The fields of a frame's header. */
+#define LTA_HEAD_LEN 10
+enum lta_head {
+    LTA_HEAD_KIND = 0,   /* 2 */
+    LTA_HEAD_CELL = 1,   /* 0 to 15 */
+    LTA_HEAD_BLOCK = 2,  /* Y block, 0 to 255 */
+    LTA_HEAD_BIN = 3,    /* data bin, 0 to 999 */
+    LTA_HEAD_BANK = 4,   /* 0 or 1 */
+    LTA_HEAD_TICKS = 5,  /* at most 16,777,215 */
+    LTA_HEAD_CENTRE = 6, /* of those, valid at lag N/2 */
+    LTA_HEAD_EDGE = 7,   /* of those, valid at lag 0 */
+    LTA_HEAD_SECOND = 8, /* the second of the stamp */
+    LTA_HEAD_OFFSET = 9  /* the ticks of the stamp within its second, at most 255,999,999 */
+};
+
+/* The bytes of a frame of so many lags, and where among them the lag pairs start. */
+#define LTA_FRAME_LEN(lags) (34 + 8 * (lags))
+#define LTA_LAG_PART_START 30
+
+/* A normalised lag. */
+#define LTA_PAIR_LEN 2
+enum lta_pair { LTA_PAIR_REAL = 0, LTA_PAIR_IMAGINARY = 1 };
+
+/* The 64-bit words of work memory that a shape needs.
  * Refuses 1: a shape value out of its limits. */
 uint64_t lta_words_needed(const uint64_t *shape, size_t shape_len);
 
@@ -33,44 +145,44 @@ uint64_t lta_setup(const uint64_t *shape, size_t shape_len, uint64_t *mem, size_
 uint64_t lta_tick(const uint64_t *shape, size_t shape_len, uint64_t *mem, size_t mem_len,
                   const uint8_t *samples, size_t samples_len);
 
-/* A dump of one cell; answers 0 if kept, 1 ordered, 2 overrun, 7 for command 7.
+/* A dump of one cell; answers LTA_MOVED_KEPT, LTA_MOVED_IDLE, or loss 1 ordered or 2 overrun.
  * Refuses 1, 2, 5: no such cell, 6: bad command, 7: bank or data bin rule, 11. */
 uint64_t lta_dump(const uint64_t *shape, size_t shape_len, uint64_t *mem, size_t mem_len,
                   uint64_t cell, uint64_t command, uint64_t bank, uint64_t phase, uint64_t block);
 
-/* An integration of one cell; answers 0 if kept, 3 full, 4 replaced, 5 wide.
+/* An integration of one cell; answers LTA_MOVED_KEPT, or loss 3 full, 4 replaced or 5 wide.
  * Refuses 1, 2, 5, 11, 8: nothing held. */
 uint64_t lta_integrate(const uint64_t *shape, size_t shape_len, uint64_t *mem, size_t mem_len, uint64_t cell);
 
-/* An emission: the frame of a Ready bin into the front of out; answers the frame's length, 34 + 8N.
+/* An emission: the frame of a Ready bin into the front of out; answers the frame's length.
  * Refuses 1, 2, 5, 7: no such bank or data bin, 11, 9: bin not Ready, 10: buffer shorter than a frame. */
 uint64_t lta_emit(const uint64_t *shape, size_t shape_len, uint64_t *mem, size_t mem_len,
                   uint64_t cell, uint64_t bank, uint64_t bin, uint8_t *out, size_t out_len);
 
-/* A reading of loss 1 to 6 at one lag: I and Q into sums, ticks, edge and centre count into counts; answers 0.
+/* A reading of one loss at one lag into sums and counts, by lta_sums and lta_counts; answers 0. It changes nothing.
  * Refuses 1, 2, 5, 12: no such lag or loss, 11, and last 10: room for fewer than 2 sums or 3 counts. */
 uint64_t lta_reading(const uint64_t *shape, size_t shape_len, const uint64_t *mem, size_t mem_len,
                      uint64_t cell, uint64_t lag, uint64_t loss,
                      int64_t *sums, size_t sums_len, uint64_t *counts, size_t counts_len);
 
-/* The ticks that a cell may still take before it is held off.
+/* The ticks that a cell may still take before it is held off. It changes nothing.
  * Refuses 1, 2, 5, 11. */
 uint64_t lta_forecast(const uint64_t *shape, size_t shape_len, const uint64_t *mem, size_t mem_len, uint64_t cell);
 
-/* The fields of a frame of so many lags: kind, cell, block, bin, bank, ticks, centre, edge, second, offset; answers 0.
+/* The fields of a frame of so many lags into head, by lta_head; answers 0.
  * Refuses 1, 13: wrong length, 14: mark, 15: last word, 16: a field rule, and last 10: fewer than 10 numbers. */
 uint64_t lta_read_frame(uint64_t lags, const uint8_t *bytes, size_t bytes_len, uint32_t *head, size_t head_len);
 
-/* The length of the part of a frame that holds its lag pairs; the part starts at byte 30.
+/* The length of the part of a frame that holds its lag pairs; the part starts at byte LTA_LAG_PART_START.
  * Refuses nothing: 0, the empty part, where the reader refuses. */
 uint64_t lta_lag_part(uint64_t lags, const uint8_t *bytes, size_t bytes_len);
 
-/* The frame of ten fields, in the order of lta_read_frame, and 2N lag numbers, I and Q in turn; answers its length.
+/* The frame of ten fields, by lta_head, and 2N lag numbers, I and Q in turn; answers its length.
  * Refuses 1, 16: a field rule, not ten fields or not 2N numbers, 10: buffer shorter than a frame. */
 uint64_t lta_write_frame(uint64_t lags, const uint32_t *head, size_t head_len,
                          const int32_t *numbers, size_t numbers_len, uint8_t *out, size_t out_len);
 
-/* One lag of a frame by its centre count into pair, real and imaginary part; answers 1, or 0 where there is no data.
+/* One lag of a frame by its centre count into pair, by lta_pair; answers 1, or 0 where there is no data.
  * Refuses 1, 13, 14, 15, 16, 12: no such lag, and last 10: pair has fewer than 2 numbers. */
 uint64_t lta_normalised_lag(uint64_t lags, const uint8_t *bytes, size_t bytes_len, uint64_t lag,
                             double *pair, size_t pair_len);

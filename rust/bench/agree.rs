@@ -84,11 +84,11 @@ impl Pair {
         }
     }
 
-    /// Some calls with a word of both forged; then all is as it was.
-    fn forged(&mut self, at: usize, word: u64) {
+    /// Some calls with a word of both altered; then all is as it was.
+    fn with_word(&mut self, at: usize, word: u64) {
         let before = (self.proved.clone(), self.peer.clone());
-        self.proved.forge(at, word);
-        self.peer.forge(at, word);
+        self.proved.set_word(at, word);
+        self.peer.set_word(at, word);
         for _ in 0..8 {
             self.call();
         }
@@ -121,22 +121,22 @@ impl Pair {
     }
 
     /// Time, flags, labels, stamps and counts mean the same in both; ticks do where they pass their limit.
-    fn forge(&mut self) {
+    fn alter(&mut self) {
         let row = 3 + 2 * self.shape.lags as usize;
         for word in [0, 1, 2, 3, 524_289, 2_147_483_648, 2_147_483_649, u64::MAX] {
             for at in 0..7 {
-                self.forged(at, word);
+                self.with_word(at, word);
             }
             for ticks_at in (0..8).map(|number| 7 + number * row) {
-                self.forged(ticks_at + 1, word);
-                self.forged(ticks_at + 2, word);
-                self.forged(ticks_at, word.max(2_147_483_649));
+                self.with_word(ticks_at + 1, word);
+                self.with_word(ticks_at + 2, word);
+                self.with_word(ticks_at, word.max(2_147_483_649));
             }
         }
     }
 }
 
-/// Lists of calls over several shapes, calls on forged memory and calls with other shapes; answers how many calls.
+/// Lists of calls over several shapes, calls on altered memory and calls with other shapes; answers how many calls.
 pub fn check() -> u64 {
     let shapes = [(1, 2, 1, 1), (2, 4, 3, 1), (3, 16, 8, 4), (4, 32, 5, 2), (16, 128, 2, 1)];
     let mut calls = 0;
@@ -146,7 +146,7 @@ pub fn check() -> u64 {
         for _ in 0..CALLS {
             pair.call();
         }
-        pair.forge();
+        pair.alter();
         pair.reshape();
         calls += pair.calls;
     }

@@ -15,7 +15,7 @@ pub trait Engine: Sized {
     /// The shape that the calls name from now on, on the same memory.
     fn pretend(&mut self, shape: Shape);
     /// Writes in work memory as somebody else would.
-    fn forge(&mut self, at: usize, word: u64);
+    fn set_word(&mut self, at: usize, word: u64);
     fn memory_bytes(&self) -> usize;
     fn read_frame(lags: u64, bytes: &[u8]) -> Result<Fields, Refusal>;
     fn write_frame(lags: u64, fields: &Fields, numbers: &[i32], out: &mut [u8]) -> Result<usize, Refusal>;
@@ -77,7 +77,7 @@ impl Engine for Proved {
         self.shape = shape.numbers();
     }
 
-    fn forge(&mut self, at: usize, word: u64) {
+    fn set_word(&mut self, at: usize, word: u64) {
         self.words[at] = word;
     }
 
@@ -150,7 +150,7 @@ impl Engine for Peer {
         self.shape = shape;
     }
 
-    fn forge(&mut self, at: usize, word: u64) {
+    fn set_word(&mut self, at: usize, word: u64) {
         self.words[at] = word as i64;
     }
 

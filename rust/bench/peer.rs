@@ -1,5 +1,6 @@
 //! The peer: the same contract in plain safe Rust. Work memory is one slice of words that the caller owns, sums are
-//! signed, and every call makes document 01's tests of memory before it writes.
+//! signed, and every call makes document 01's tests of memory before it writes. No call is inlined, as none of the
+//! proved engine's is, so that its speed does not hang on who calls it.
 mod cell;
 pub mod frame;
 mod layout;
@@ -47,6 +48,7 @@ fn lags_ok(lags: u64) -> bool {
 }
 
 /// The words of work memory that a shape needs.
+#[inline(never)]
 pub fn words_needed(shape: &Shape) -> Result<usize, Refusal> {
     check(shape_ok(shape), Refusal::BadShape)?;
     Ok(1 + shape.cells as usize * Layout::new(shape).words())
@@ -59,6 +61,7 @@ fn host(shape: &Shape, words: usize) -> Result<Layout, Refusal> {
 }
 
 /// Clears the memory: a fresh run.
+#[inline(never)]
 pub fn setup(shape: &Shape, mem: &mut [i64]) -> Result<(), Refusal> {
     let layout = host(shape, mem.len())?;
     mem.fill(0);
@@ -70,6 +73,7 @@ pub fn setup(shape: &Shape, mem: &mut [i64]) -> Result<(), Refusal> {
 }
 
 /// One tick; answers the number of cells held off.
+#[inline(never)]
 pub fn tick(shape: &Shape, mem: &mut [i64], samples: &[u8]) -> Result<u32, Refusal> {
     let layout = host(shape, mem.len())?;
     check(samples.len() as u64 == 2 * shape.cells, Refusal::WrongSamples)?;
@@ -98,6 +102,7 @@ fn bin_rule_ok(s: &Shape, bank: u64, phase: u64, block: u64) -> bool {
 }
 
 /// A dump of one cell.
+#[inline(never)]
 pub fn dump(
     shape: &Shape,
     mem: &mut [i64],
@@ -120,6 +125,7 @@ pub fn dump(
 }
 
 /// An integration of one cell.
+#[inline(never)]
 pub fn integrate(shape: &Shape, mem: &mut [i64], cell: u64) -> Result<Moved, Refusal> {
     let layout = host(shape, mem.len())?;
     let part = part(shape, &layout, cell)?;
@@ -132,6 +138,7 @@ pub fn integrate(shape: &Shape, mem: &mut [i64], cell: u64) -> Result<Moved, Ref
 }
 
 /// An emission of a Ready bin into the front of out; answers the frame's length.
+#[inline(never)]
 pub fn emit(
     shape: &Shape,
     mem: &mut [i64],
@@ -160,6 +167,7 @@ pub fn emit(
 }
 
 /// A reading of one loss at one lag.
+#[inline(never)]
 pub fn reading(shape: &Shape, mem: &[i64], cell: u64, lag: u64, loss: u64) -> Result<Sums, Refusal> {
     let layout = host(shape, mem.len())?;
     let part = part(shape, &layout, cell)?;
@@ -174,6 +182,7 @@ pub fn reading(shape: &Shape, mem: &[i64], cell: u64, lag: u64, loss: u64) -> Re
 }
 
 /// The ticks that a cell may still take before it is held off.
+#[inline(never)]
 pub fn forecast(shape: &Shape, mem: &[i64], cell: u64) -> Result<u32, Refusal> {
     let layout = host(shape, mem.len())?;
     let part = part(shape, &layout, cell)?;

@@ -5,7 +5,9 @@
 //! nothing. What each call means is in document 01, whose terms are used here.
 //!
 //! The work is done by a static library that is proved to do it ([`ffi`] is its C interface over slices); this crate
-//! adds types and owns the memory.
+//! adds types and owns the memory. The library keeps nothing between calls, so that all of a run is its shape and its
+//! words: threads may work on runs of their own at the same time, and a run can be put away and taken up again
+//! ([`Run::resume`]).
 //!
 //! ```
 //! use lta::{Command, Run, Shape};

@@ -4,6 +4,10 @@ use crate::{Command, Frame, Loss, Moved, Refusal, Shape, Sums};
 
 /// A run: a shape and the work memory that belongs to it.
 ///
+/// A run is its shape and its words and nothing else. So runs may be sent to other threads and called there at the
+/// same time, each by whoever owns it; and since [`words`](Run::words), [`reading`](Run::reading) and
+/// [`forecast`](Run::forecast) only read, threads that share a `&Run` may call them at once.
+///
 /// ```
 /// use lta::{Command, Loss, Moved, Refusal, Run, Shape};
 ///
@@ -39,12 +43,42 @@ impl Run {
         Ok(Run { shape, numbers, words })
     }
 
+    /// The run whose words these are, as [`words`](Run::words) gave them: it goes on as if it had never stopped.
+    /// Refuses 1, and 2 where the shape needs another number of words. Cleared words are a fresh run.
+    ///
+    /// Words that have been away, on disc or elsewhere, should come back whole: write them to a new file and rename
+    /// it, then there is the old copy or the new one. What they hold is not looked at here. Each call tests the parts
+    /// that it works on, as on any run, and refuses 11 where a word of them is out of its limits; a copy that is half
+    /// old and half new can be within them and pass.
+    ///
+    /// ```
+    /// # use lta::{Refusal, Run, Shape};
+    /// # let shape = Shape { cells: 1, lags: 2, bins: 1, blocks: 1, start: 0, rate: 4, second: 0 };
+    /// let mut run = Run::new(shape)?;
+    /// run.tick(&[0x02, 0x03])?;
+    /// let saved = run.words().to_vec();
+    /// run.tick(&[0x01, 0x0f])?;
+    ///
+    /// let mut resumed = Run::resume(shape, saved)?;
+    /// resumed.tick(&[0x01, 0x0f])?;
+    /// assert_eq!(resumed, run);
+    /// assert_eq!(Run::resume(shape, vec![0; 84]), Err(Refusal::WrongMemory));
+    /// # Ok::<(), Refusal>(())
+    /// ```
+    pub fn resume(shape: Shape, words: Vec<u64>) -> Result<Run, Refusal> {
+        if words.len() != shape.words_needed()? {
+            return Err(Refusal::WrongMemory);
+        }
+        Ok(Run { shape, numbers: shape.numbers(), words })
+    }
+
     /// The shape of the run.
     pub fn shape(&self) -> Shape {
         self.shape
     }
 
-    /// The words of work memory, as docs/LAYOUT.md lays them out.
+    /// The words of work memory, as docs/LAYOUT.md lays them out: all that [`resume`](Run::resume) needs besides the
+    /// shape.
     ///
     /// ```
     /// # let shape = lta::Shape { cells: 1, lags: 2, bins: 1, blocks: 1, start: 0, rate: 4, second: 0 };

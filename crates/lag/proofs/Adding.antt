@@ -8,7 +8,10 @@ use lib.ListN.{length, getD}
 use Rattle.lta_spec.specs.Words.{part, splice, sums}
 use Rattle.lta_spec.specs.Size.{depth}
 use Rattle.lta_spec.specs.Row.{lagRow, tickRow}
-use Rattle.lag.specs.Lag.{Registers, lagTerms, entriesAt, tickCounts, Ready, ticked}
+use Rattle.lag_registers.specs.Registers.{Registers}
+use Rattle.lag_terms.specs.Terms.{lagTerms}
+use Rattle.lag_counts.specs.Counts.{entriesAt, tickCounts, Ready}
+use Rattle.lag.specs.Lag.{ticked}
 use Rattle.lag.proofs.Loops.{getD-behind, added-append}
 use Rattle.lag.proofs.RowLaws.{length-lagRow, lagRow-small}
 use Rattle.lag.proofs.Decoding.{terms-are}

@@ -1,4 +1,4 @@
--- Laws of what the loops write, of the rows that they make, of decoded registers, and of a tick that is added.
+-- Laws of words that are added to a row, of the rows that ticks add, of decoded registers, and of a tick that is added.
 pub mod Loops
 pub mod RowLaws
 pub mod Decoding

@@ -1,35 +1,16 @@
 -- The terms that the lag loop writes are document 01's row of a tick.
 use mathlib.Core.Path.{_≡_, refl, sym, ap, _∙_}
 use mathlib.Core.List.{List, [], _∷_, _++_, map}
-use Prim.Native.Nat.{ℕ, zero, suc, _+_, _*_, _-_, _/_, _≤_}
+use Prim.Native.Nat.{ℕ, zero, suc, _+_, _*_, _-_, _≤_}
 use native.Mathlib.Nat.{add-zero}
 use native.Mathlib.Omega.{arith}
-use lib.ListN.{length, getD, length-append, List·getD-map}
-use Rattle.lta_spec.specs.Words.{part}
-use Rattle.lta_spec.specs.Size.{depth}
-use Rattle.lta_spec.specs.Tick.{Entry, ago, xDelay, yDelay, bothValid, validAt, inPhaseAt, quadratureAt}
+use lib.ListN.{length, getD}
+use Rattle.lta_spec.specs.Tick.{Entry, xDelay, yDelay, inPhaseAt, quadratureAt}
 use Rattle.lta_spec.specs.Row.{biased, fromWord, lagRow}
-use Rattle.lta_spec.proofs.WordLaws.{getD-part}
 use Rattle.signal.specs.Signal.{digit, phase, contribution}
 use Rattle.signal.proofs.SignalLaws.{digits, contribution-small, in-phase-is, quadrature-is}
-use Rattle.lag.specs.Lag.{lagTerm, lagPair, lagTerms, entriesAt}
-
-pub length-lagTerms : (xs ys : List ℕ) (h : ℕ) → length (lagTerms xs ys h) ≡ 4 * h
-length-lagTerms xs ys zero = refl
-length-lagTerms xs ys (suc h) = simp length-append (omega (arith, length-lagTerms xs ys h))
-
--- an entry of a stored register; what lies past its end reads as silence, as a cleared word does
-pub ago-is : (ws : List ℕ) (d : ℕ) → ago (map fromWord ws) d ≡ fromWord (getD ws d 0)
-unfolding fromWord
-ago-is ws d = List·getD-map fromWord ws d 0
-
--- the validity of a lag, by the words of the registers
-pub valid-is : (l : List ℕ) (x y n k i j : ℕ) → i ≡ x + xDelay k → j ≡ y + yDelay n k → xDelay k ≤ n / 2
-    → bothValid (fromWord (getD l i 0)) (fromWord (getD l j 0)) ≡ validAt n (entriesAt n x l) (entriesAt n y l) k
-unfolding validAt
-valid-is l x y n k i j ei ej h =
-    rw (ago-is (part x (depth n) l) (xDelay k), ago-is (part y (depth n) l) (yDelay n k), ei, ej)
-    (rw (getD-part l x (depth n) (xDelay k) (omega arith), getD-part l y (depth n) (yDelay n k) (omega arith)))
+use Rattle.lag_terms.specs.Terms.{lagTerm, lagPair, lagTerms}
+use Rattle.lag_counts.proofs.CountLaws.{ago-is}
 
 join : {ps qs us vs : List ℕ} → ps ≡ qs → us ≡ vs → ps ++ us ≡ qs ++ vs
 join e f = cc

@@ -1,2 +1,2 @@
--- What the functions on shift registers and lags are proved against, beside the definitions of lta_spec.
+-- What a tick is proved against, beside the definitions of lta_spec.
 pub mod Lag

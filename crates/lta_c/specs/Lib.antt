@@ -1,2 +1,2 @@
--- What crosses the boundary to C.
-pub mod Boundary
+-- What the calls for hosts answer.
+pub mod Answers

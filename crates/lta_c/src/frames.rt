@@ -1,35 +1,14 @@
 // The calls on frames. Each contract is that of the call of crate frame that it makes, its answer packed.
-use crate::pack::fields_in;
-use crate::pack::pack;
-use crate::pack::refused;
-use answer::written;
-use lta_spec::Fields;
-use lta_spec::Normalised;
-use lta_spec::Parsed;
-use lta_spec::Refusal;
+use host_answer::written;
+use host_pack::numbers::fields_in;
+use host_pack::pack::pack;
+use host_values::store_fields;
+use host_values::store_pair;
 ghost use mathlib.Core.Path.{_≡_};
-ghost use Prim.Native.Nat.{_≤_};
 ghost use lib.ListN.{length};
-ghost use Rattle.lta_spec.specs.Answer.Answer.{fields};
 ghost use Rattle.lta_spec.specs.FrameCalls.{lagPart, writeAnswer, writeLeaves};
-ghost use Rattle.lta_c.specs.Boundary.{fieldsIn, packed, stored, headIn, pairIn, readTold, normalTold};
-
-// Ten fields into the slice lent.
-fn put_fields(f: Fields, head: &mut [u32])
-    requires { ⌜ 10 ≤ length (now head) ⌝ }
-    ensures { λ _. ⌜ now (head .exit) ≡ stored (now (head .entry)) 0 (headIn (fields f)) ⌝ }
-{
-    head[0] = f.kind;
-    head[1] = f.cell;
-    head[2] = f.block;
-    head[3] = f.bin;
-    head[4] = f.bank;
-    head[5] = f.ticks;
-    head[6] = f.centre;
-    head[7] = f.edge;
-    head[8] = f.second;
-    head[9] = f.offset;
-}
+ghost use Rattle.host_pack.specs.Boundary.{fieldsIn, packed, stored, headIn, pairIn};
+ghost use Rattle.lta_c.specs.Answers.{readTold, normalTold};
 
 // The fields of a frame.
 #[no_mangle]
@@ -38,16 +17,7 @@ pub extern "C" fn lta_read_frame(lags: u64, bytes: &[u8], head: &mut [u32]) -> u
     ensures leaves { λ _. ⌜ now (head .exit)
         ≡ stored (now (head .entry)) 0 (headIn (readTold lags (now (bytes .entry)) (now (head .entry)))) ⌝ }
 {
-    match frame::read_frame(lags, bytes) {
-        Parsed::Refused(r) => refused(r),
-        Parsed::Frame(f) => {
-            if head.len() < 10 {
-                return refused(Refusal::ShortBuffer);
-            }
-            put_fields(f, &mut *head);
-            0
-        }
-    }
+    store_fields(frame::read_frame(lags, bytes), &mut *head)
 }
 
 // The length of the part of a frame that holds its lag pairs.
@@ -77,21 +47,5 @@ pub extern "C" fn lta_normalised_lag(lags: u64, bytes: &[u8], lag: u64, pair: &m
     ensures leaves { λ _. ⌜ now (pair .exit)
         ≡ stored (now (pair .entry)) 0 (pairIn (normalTold lags (now (bytes .entry)) lag (now (pair .entry)))) ⌝ }
 {
-    match frame::normalised_lag(lags, bytes, lag) {
-        Normalised::Refused(r) => refused(r),
-        Normalised::NoData => {
-            if pair.len() < 2 {
-                return refused(Refusal::ShortBuffer);
-            }
-            0
-        }
-        Normalised::Lag(z) => {
-            if pair.len() < 2 {
-                return refused(Refusal::ShortBuffer);
-            }
-            pair[0] = z.re;
-            pair[1] = z.im;
-            1
-        }
-    }
+    store_pair(frame::normalised_lag(lags, bytes, lag), &mut *pair)
 }

@@ -1,23 +1,18 @@
 // The calls on a run. Each contract is that of the call of crate lta that it makes, its answer packed.
-use crate::pack::pack;
-use crate::pack::refused;
-use crate::pack::shape_of;
-use answer::forecast;
-use answer::moved;
-use answer::needed;
-use answer::started;
-use answer::ticked;
-use answer::written;
-use lta_spec::Ledger;
-use lta_spec::Refusal;
-use lta_spec::Sums;
+use host_answer::forecast;
+use host_answer::moved;
+use host_answer::needed;
+use host_answer::started;
+use host_answer::ticked;
+use host_answer::written;
+use host_pack::numbers::shape_of;
+use host_pack::pack::pack;
+use host_values::store_sums;
 ghost use mathlib.Core.Path.{_≡_};
-ghost use Prim.Native.Nat.{_≤_};
-ghost use lib.ListN.{length};
-ghost use Rattle.lta_spec.specs.Answer.Answer.{entry};
 ghost use Rattle.lta_spec.specs.Call.Call.{tick, dump, integrate, emit};
 ghost use Rattle.lta_spec.specs.Step.{sizeAnswer, setupAnswer, setupLeaves, step, ForecastOk};
-ghost use Rattle.lta_c.specs.Boundary.{shapeOf, packed, stored, sumsIn, countsIn, Packs, readingTold};
+ghost use Rattle.host_pack.specs.Boundary.{shapeOf, packed, stored, sumsIn, countsIn};
+ghost use Rattle.lta_c.specs.Answers.{Packs, readingTold};
 
 // How many words of work memory a shape needs.
 #[no_mangle]
@@ -107,21 +102,6 @@ pub extern "C" fn lta_emit(
     pack(written(lta::emit(shape_of(shape), &mut *mem, cell, bank, bin, &mut *out)))
 }
 
-// The numbers of a loss into the slices lent.
-fn put_sums(s: Sums, sums: &mut [i64], counts: &mut [u64])
-    requires { ⌜ (2 ≤ length (now sums)) × (3 ≤ length (now counts)) ⌝ }
-    ensures { λ _. ⌜ (now (sums .exit) ≡ stored (now (sums .entry)) 0 (sumsIn (entry s)))
-        × (now (counts .exit) ≡ stored (now (counts .entry)) 0 (countsIn (entry s))) ⌝ }
-{
-    let i = s.i;
-    let q = s.q;
-    sums[0] = i;
-    sums[1] = q;
-    counts[0] = s.ticks;
-    counts[1] = s.edge;
-    counts[2] = s.centre;
-}
-
 // The numbers of one loss of one cell at one lag.
 #[no_mangle]
 pub extern "C" fn lta_reading(
@@ -147,19 +127,11 @@ pub extern "C" fn lta_reading(
         (readingTold (now (shape .entry)) (now (mem .entry)) cell lag loss (now (sums .entry))
         (now (counts .entry)))) ⌝ }
 {
-    match lta::reading(shape_of(shape), mem, cell, lag, loss) {
-        Ledger::Refused(r) => refused(r),
-        Ledger::Entry(s) => {
-            if sums.len() < 2 {
-                return refused(Refusal::ShortBuffer);
-            }
-            if counts.len() < 3 {
-                return refused(Refusal::ShortBuffer);
-            }
-            put_sums(s, &mut *sums, &mut *counts);
-            0
-        }
-    }
+    store_sums(
+        lta::reading(shape_of(shape), mem, cell, lag, loss),
+        &mut *sums,
+        &mut *counts,
+    )
 }
 
 // The ticks that a cell may still take before it is held off.

@@ -7,7 +7,7 @@ use mathlib.Core.Logic.{⊎-elim}
 use native.Mathlib.Omega.{arith}
 use lib.Dec.{eqb}
 use borrow.Author.Tests.{eq-eqb}
-use Rattle.lta_spec.specs.Refusals.{Test, refusalNumber, firstOf, judged}
+use Rattle.lta_spec.specs.Refusals.{Test, refusalNumber, firstOf, decided}
 use Rattle.lta_spec.specs.Size.{memoryWords, hostTests}
 use Rattle.lta_spec.specs.Words.{every}
 use Rattle.lta_spec.specs.Call.{Call, lentTo}
@@ -15,8 +15,8 @@ use Rattle.lta_spec.specs.Call.Call.{tick, dump, integrate, emit, readin
 use Rattle.lta_spec.specs.Answer.{refusal}
 use Rattle.lta_spec.specs.Answer.Answer.{refused}
 use Rattle.lta_spec.specs.MachineRun as R
-use Rattle.lta_spec.specs.Demand.{Listed, Told, machineStep, machineTells}
-use Rattle.lta_spec.specs.Demand.Listed.{usual, odd}
+use Rattle.lta_spec.specs.Demand.{Listed, Returned, machineStep, machineReturns}
+use Rattle.lta_spec.specs.Demand.Listed.{onRun, onOther}
 use Rattle.lta_spec.specs.declared.Shape.{Shape}
 use Rattle.lta_spec.specs.declared.Refusal.{Refusal}
 use Rattle.lta_spec.specs.declared.Verdict.{Verdict}
@@ -69,7 +69,7 @@ step-other sh words call r =
     by-verdict (firstOf (hostTests sh words ++ R.callTests sh r call)) refl
   where
     by-verdict : (v : Verdict) → firstOf (hostTests sh words ++ R.callTests sh r call) ≡ v
-        → (judged {A = R.Step} v (λ why. record { answer = refusal why; out = lentTo call; run = r })
+        → (decided {A = R.Step} v (λ why. record { answer = refusal why; out = lentTo call; run = r })
         (R.accepted sh call r))
         .answer ≡ refused 11 → ⊥
     by-verdict Accepted v e = accepted-other sh call r e
@@ -79,12 +79,12 @@ step-other sh words call r =
         absurdly (sym p ∙ ap not (eq-eqb (refusalNumber why) 11 eleven))
 
 machine-other : (sh : Shape) (c : Listed) (r : R.Run) → (machineStep sh c r) .answer ≡ refused 11 → ⊥
-machine-other sh (usual call) r e = step-other sh (memoryWords sh) call r e
-machine-other sh (odd shape call given) r e = step-other shape _ call r e
+machine-other sh (onRun call) r e = step-other sh (memoryWords sh) call r e
+machine-other sh (onOther shape call given) r e = step-other shape _ call r e
 
-pub never-eleven : (sh : Shape) (cs : List Listed) (r : R.Run) (t : Told) → List·Memᴰ t (machineTells sh cs r)
+pub never-eleven : (sh : Shape) (cs : List Listed) (r : R.Run) (t : Returned) → List·Memᴰ t (machineReturns sh cs r)
     → t .answer ≡ refused 11 → ⊥
-unfolding machineTells
+unfolding machineReturns
 never-eleven sh [] r t i e = List·Memᴰ·not-nil i
 never-eleven sh (c ∷ cs) r t i e =
     ⊎-elim (λ first. machine-other sh c r (sym (ap (λ x. x .answer) first) ∙ e))

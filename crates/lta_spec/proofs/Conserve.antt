@@ -7,7 +7,8 @@ use native.Mathlib.Nat.{not-suc-le-zero, le-of-suc-le-suc}
 use native.Mathlib.Omega.{arith}
 use lib.Dec.{eqb}
 use lib.ListN.{length, getD, set}
-use Rattle.lta_spec.specs.Place.{Label, Bin, Cell, free, filling, lossCount}
+use Rattle.lta_spec.specs.Place.{Label, Bin, Cell, free, filling, lossCount, ordered, overrun, full, replaced}
+use Rattle.lta_spec.specs.Place.{tooWide, holdoff}
 use Rattle.lta_spec.specs.Call.{last, binIndex}
 use Rattle.lta_spec.specs.Machine as M
 use Rattle.lta_spec.specs.Machine.{Ticks, stamped}
@@ -77,7 +78,7 @@ module _ (f : ℕ → ℕ) where
     tickBy-total : (b : Bool) (t : ℕ) → overCell (tally f) (M.tickBy b t c) ≡ overCell (tally f) c + f t
     unfolding M.tickBy
     tickBy-total true t = omega (arith, over-append f (c .opened .members) (t ∷ []))
-    tickBy-total false t = omega (arith, lost 5 (t ∷ []) (omega arith))
+    tickBy-total false t = omega (arith, lost holdoff (t ∷ []) (omega arith))
 
     pub tick-total : (t : ℕ) → overCell (tally f) (M.tickCell t c) ≡ overCell (tally f) c + f t
     unfolding M.tickCell
@@ -87,8 +88,8 @@ module _ (f : ℕ → ℕ) where
         → overCell (tally f) ((M.dumpBy x y z l t c) .cell) ≡ overCell (tally f) c
     unfolding M.dumpBy M.loseOpen M.holdOpen
     dumpBy-total true y z l t e = refl
-    dumpBy-total false true z l t e = omega (arith, lost 0 (c .opened .members) (omega arith))
-    dumpBy-total false false true l t e = omega (arith, lost 1 (c .opened .members) (omega arith))
+    dumpBy-total false true z l t e = omega (arith, lost ordered (c .opened .members) (omega arith))
+    dumpBy-total false false true l t e = omega (arith, lost overrun (c .opened .members) (omega arith))
     dumpBy-total false false false l t e = omega (arith, e refl)
 
     pub dump-total : (l : Label) (t : ℕ) → (eqb (c .held .occupied) 1 ≡ false → tally f (c .held .content .members) ≡ 0)
@@ -107,19 +108,19 @@ module _ (f : ℕ → ℕ) where
           → overCell (tally f) ((M.integrateBy r s w k (M.binAt k c) c) .cell) ≡ overCell (tally f) c
       unfolding M.integrateBy M.release
       integrateBy-total true s w =
-          omega (arith, bin-set (M.binAt k c), lost 2 (c .held .content .members) (omega arith))
+          omega (arith, bin-set (M.binAt k c), lost full (c .held .content .members) (omega arith))
       integrateBy-total false true w =
           omega (
             arith,
             bin-set (record { state = filling; content = c .held .content }),
-            lost 3 ((M.binAt k c) .content .members) (omega arith),
+            lost replaced ((M.binAt k c) .content .members) (omega arith),
           )
       integrateBy-total false false true =
           let after = M.stateAfter (eqb (c .held .label .command) last) in
           omega (
             arith,
             bin-set (record { state = after; content = (M.binAt k c) .content }),
-            lost 4 (c .held .content .members) (omega arith),
+            lost tooWide (c .held .content .members) (omega arith),
           )
       integrateBy-total false false false =
           let after = M.stateAfter (eqb (c .held .label .command) last) in

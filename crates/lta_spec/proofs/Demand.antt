@@ -16,16 +16,16 @@ use Rattle.lta_spec.specs.Engine as E
 use Rattle.lta_spec.specs.Memory as W
 use Rattle.lta_spec.specs.Memory.{runL}
 use Rattle.lta_spec.specs.Step as S
-use Rattle.lta_spec.specs.Demand.{Listed, AllStand, AllKeep, machineAfter, memAfter, framesTold}
-use Rattle.lta_spec.specs.Demand.{machineTells, engineTells, freshMem}
+use Rattle.lta_spec.specs.Demand.{Listed, AllStand, AllKeep, machineAfter, memAfter, framesReturned}
+use Rattle.lta_spec.specs.Demand.{machineReturns, engineReturns, freshMem}
 use Rattle.lta_spec.specs.Demand.{Equal, EqualStamped, EqualCell, Demand3, isTick, places, ticksBelow}
 use Rattle.lta_spec.specs.Demand.{AllRead, rows, readSums, AddUp}
-use Rattle.lta_spec.specs.Demand.Listed.{usual, odd}
+use Rattle.lta_spec.specs.Demand.Listed.{onRun, onOther}
 use Rattle.lta_spec.specs.declared.Shape.{Shape}
 use Rattle.lta_spec.specs.declared.Sums.{Sums}
 use Rattle.lta_spec.proofs.ShapeLaws.{shaped}
 use Rattle.lta_spec.proofs.RowLaws.{numbers, numbers-size}
-use Rattle.lta_spec.proofs.SetLaws.{stored-inPhase, stored-quadrature, stored-edge, stored-centre, sums-told}
+use Rattle.lta_spec.proofs.SetLaws.{stored-inPhase, stored-quadrature, stored-edge, stored-centre, sums-read}
 use Rattle.lta_spec.proofs.Carry.{row, mapStamped, mapBin, mapCell, bin-carry, loss-carry}
 use Rattle.lta_spec.proofs.SameCell.{Same}
 use Rattle.lta_spec.proofs.SameRun.{same-at}
@@ -88,17 +88,17 @@ module _ (n : ℕ) (xs ys : List ℕ) (k : ℕ) (h : k < n) where
         map-map (row n xs ys) (λ b. b .content .members) (c .bins),
       )
 
-  rows-told : (ls : List Ticks) → map (rowSums k) (map (row n xs ys) ls) ≡ map sumsOf ls
-  rows-told [] = refl
-  rows-told (s ∷ ls) = ap₂ (λ x r. x ∷ r) (sums-told n xs ys s k h) (rows-told ls)
+  rows-read : (ls : List Ticks) → map (rowSums k) (map (row n xs ys) ls) ≡ map sumsOf ls
+  rows-read [] = refl
+  rows-read (s ∷ ls) = ap₂ (λ x r. x ∷ r) (sums-read n xs ys s k h) (rows-read ls)
 
-  places-told : (u : R.Unit) (back : List Sums) → back ≡ map (λ e. sumsOf (e .content .members)) (u .frames)
+  places-read : (u : R.Unit) (back : List Sums) → back ≡ map (λ e. sumsOf (e .content .members)) (u .frames)
       → map (rowSums k) (rows (mapCell (row n xs ys) (u .cell))) ++ back ≡ map sumsOf (places u)
-  places-told u back e =
+  places-read u back e =
       let c = u .cell in
       let frames = map (λ e. e .content .members) (u .frames) in
       let sets = map (λ b. b .content .members) (c .bins) in
-      ap₂ _++_ (ap (map (rowSums k)) (rows-carry c) ∙ rows-told (kept c))
+      ap₂ _++_ (ap (map (rowSums k)) (rows-carry c) ∙ rows-read (kept c))
       (e ∙ sym (map-map sumsOf (λ e. e .content .members) (u .frames)))
       ∙ sym (map-append sumsOf (kept c) frames)
       ∙ ap (λ l. map sumsOf (c .opened .members ∷ c .held .content .members ∷ l)) (append-assoc sets (c .losses) frames)
@@ -106,8 +106,8 @@ module _ (n : ℕ) (xs ys : List ℕ) (k : ℕ) (h : k < n) where
 -- other work memory is left alone
 all-keep : (cs : List Listed) → AllStand cs → AllKeep cs
 all-keep [] a = tt
-all-keep (usual call ∷ cs) a = (tt, all-keep cs (a .1))
-all-keep (odd shape call given ∷ cs) a =
+all-keep (onRun call ∷ cs) a = (tt, all-keep cs (a .1))
+all-keep (onOther shape call given ∷ cs) a =
     (ap (λ s. s .mem) (turned shape call given (R.start shape) (a .0) .engine), all-keep cs (a .1))
 
 -- a fresh cell has sent no frame
@@ -125,16 +125,16 @@ demand3 sh ok cs stand =
     ap ((runL sh) .get) (f .mem) ∙ loaded sh (f .run) m (f .same) in
     let at : (c : ℕ) → c < sh .cells → Same (sh .lags) (sh .bins) (m .t) (S.unitAt sh c (f .run)) (R.unitAt sh c m) =
     λ c h. same-at _ _ (m .t) (f .run .units) (m .units) _ _ (f .same .units) c (omega (arith, f .same .cells)) in
-    let told : (c : ℕ) → List (List ℕ) = λ c. framesTold (sh .lags) c cs (engineTells sh cs (freshMem sh)) in
-    let sent : (c : ℕ) → c < sh .cells → told c ≡ map (setFrame sh c ((R.unitAt sh c m) .xs) ((R.unitAt sh c m) .ys))
-    ((R.unitAt sh c m) .frames) =
+    let returned : (c : ℕ) → List (List ℕ) = λ c. framesReturned (sh .lags) c cs (engineReturns sh cs (freshMem sh)) in
+    let sent : (c : ℕ) → c < sh .cells → returned c
+    ≡ map (setFrame sh c ((R.unitAt sh c m) .xs) ((R.unitAt sh c m) .ys)) ((R.unitAt sh c m) .frames) =
     λ c h.
-    ap (framesTold (sh .lags) c cs) (f .tells)
-    ∙ sym (append-nil (framesTold (sh .lags) c cs (machineTells sh cs (R.start sh))))
+    ap (framesReturned (sh .lags) c cs) (f .tells)
+    ∙ sym (append-nil (framesReturned (sh .lags) c cs (machineReturns sh cs (R.start sh))))
     ∙ list-framed sh (k .some-lags) cs stand (W.start sh) (R.start sh) (start-same sh (k .some-bins)) c h []
     (λ gx gy. rw (none-sent sh (sh .cells) c)) [] [] in
     let back : (c : ℕ) → (h : c < sh .cells)
-    → AllRead sh c ((R.unitAt sh c m) .xs) ((R.unitAt sh c m) .ys) (told c) ((R.unitAt sh c m) .frames) =
+    → AllRead sh c ((R.unitAt sh c m) .xs) ((R.unitAt sh c m) .ys) (returned c) ((R.unitAt sh c m) .frames) =
     λ c h.
     let u = R.unitAt sh c m in
     subst (λ fs. AllRead sh c (u .xs) (u .ys) fs (u .frames)) (sym (sent c h))
@@ -156,10 +156,10 @@ demand3 sh ok cs stand =
           let u = R.unitAt sh c m in
           let n = sh .lags in
           let parts =
-          ap (λ z. map (rowSums k) (rows z) ++ map (readSums n k) (told c))
+          ap (λ z. map (rowSums k) (rows z) ++ map (readSums n k) (returned c))
           (ap (S.cellAt sh c) read ∙ at c h .cell [] [])
-          ∙ places-told n (u .xs) (u .ys) k l u _
-          (sums-back sh ok c h (m .t) (f .same .limit) (u .xs) (u .ys) k l (told c) (u .frames) (back c h)) in
+          ∙ places-read n (u .xs) (u .ys) k l u _
+          (sums-back sh ok c h (m .t) (f .same .limit) (u .xs) (u .ys) k l (returned c) (u .frames) (back c h)) in
           subst (λ p. AddUp p (setSums n (u .xs) (u .ys) (ticksBelow (m .t)) k)) (sym parts)
           (sets-add-up n (u .xs) (u .ys) k (places u) (ticksBelow (m .t)) (at c h .good .once));
     }

@@ -34,30 +34,30 @@ use Rattle.lta_spec.specs.Damage as D
 use Rattle.lta_spec.specs.Layout.{word, block, pair, many, fields}
 use Rattle.lta_spec.specs.Memory.{binL, unitL, runL, start}
 use Rattle.lta_spec.specs.Step as S
-use Rattle.lta_spec.specs.Demand.{machineTells, engineTells, freshMem}
-use Rattle.lta_spec.specs.WorkedRun.{workedShape, workedRun, callsOf, toldBy}
-use Rattle.lta_spec.specs.Edges.{Edges, scriptShape, script, scriptTold}
+use Rattle.lta_spec.specs.Demand.{machineReturns, engineReturns, freshMem}
+use Rattle.lta_spec.specs.WorkedRun.{workedShape, workedRun, callsOf, returnedBy}
+use Rattle.lta_spec.specs.Edges.{Edges, scriptShape, script, scriptReturned}
 
-machine-told : (machineTells scriptShape script (R.start scriptShape) ≡ scriptTold)
-    × (machineTells workedShape (callsOf workedRun) (R.start workedShape) ≡ toldBy workedRun)
+machine-returned : (machineReturns scriptShape script (R.start scriptShape) ≡ scriptReturned)
+    × (machineReturns workedShape (callsOf workedRun) (R.start workedShape) ≡ returnedBy workedRun)
 unfolding
     lagCountOk shapeOk memoryWords hostTests fromByte product weight inPhase quadrature validAt inPhaseAt
     quadratureAt sealed frameOf header commandOk dataBinOk emittedFields M.lose M.hasRoom M.tickBy M.tickCell
     M.loseOpen M.holdOpen M.dumpBy M.dumpCell M.release M.stateAfter M.stampAfter M.integrateBy M.binAt
     M.integrateAt M.integrateCell M.emptyBin N.upTo N.inPhaseSum N.quadratureSum N.validCount N.setFrame
-    R.verdict R.tickUnits R.heldOff R.withCell R.emitted R.withFrame R.accepted R.step machineTells
-machine-told = (refl, refl)
+    R.verdict R.tickUnits R.heldOff R.withCell R.emitted R.withFrame R.accepted R.step machineReturns
+machine-returned = (refl, refl)
 
-engine-told : (engineTells scriptShape script (freshMem scriptShape) ≡ scriptTold)
-    × (engineTells workedShape (callsOf workedRun) (freshMem workedShape) ≡ toldBy workedRun)
+engine-returned : (engineReturns scriptShape script (freshMem scriptShape) ≡ scriptReturned)
+    × (engineReturns workedShape (callsOf workedRun) (freshMem workedShape) ≡ returnedBy workedRun)
 unfolding
     lagCountOk shapeOk memoryWords hostTests product weight inPhase quadrature validAt inPhaseAt quadratureAt
     sealed frameOf header commandOk dataBinOk emittedFields tickRow rowOk fromWord E.lose E.binAt E.hasRoom
     E.tickBy E.tickUnit E.loseOpen E.holdOpen E.dumpBy E.dumpCell E.release E.stateAfter E.stampAfter
     E.integrateBy E.integrateAt E.integrateCell E.emptyBin D.lossesOk D.tickSound D.dumpHolds D.dumpParts
     D.dumpSound D.integrateHolds D.integrateBinSound D.integrateSound D.emitSound word block pair many fields
-    binL unitL runL S.unitsSound S.tickUnits S.heldOff S.withCell S.rowFrame S.accepted S.verdict S.step engineTells
-engine-told = (refl, refl)
+    binL unitL runL S.unitsSound S.tickUnits S.heldOff S.withCell S.rowFrame S.accepted S.verdict S.step engineReturns
+engine-returned = (refl, refl)
 
 -- the two sides of a bin's ceiling
 narrow : (a b : ℕ) → a ≡ 16777214 → b ≡ 1 → ltb binLimit (a + b) ≡ false
@@ -95,10 +95,10 @@ unfolding
     M.binAt M.emptyBin lagCountOk normalVerdict marked summed ruled fieldsOf fixedOk fieldsOk part
 edges =
     record {
-      p1-machine = machine-told .0;
-      p1-engine = engine-told .0;
-      worked-machine = machine-told .1;
-      worked-engine = engine-told .1;
+      p1-machine = machine-returned .0;
+      p1-engine = engine-returned .0;
+      worked-machine = machine-returned .1;
+      worked-engine = engine-returned .1;
       worked-bytes = refl;
       p2-lag0 = (refl, refl);
       p2-lag1 = (refl, refl);

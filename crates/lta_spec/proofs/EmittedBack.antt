@@ -1,9 +1,9 @@
 -- The bytes of an emission, read back, are what stood in the bin; and with that the whole statement of the round
 -- trips.
-use Prim.Native.Nat.{ℕ, zero, suc, _*_, _≤_, _<_}
-use mathlib.Core.Path.{_≡_, sym, ap, _∙_, refl, subst}
+use Prim.Native.Nat.{ℕ, suc, _≤_, _<_}
+use mathlib.Core.Path.{_≡_, sym, ap, _∙_, refl}
 use mathlib.Core.Bool.{true, _&&_}
-use mathlib.Core.List.{List, [], _∷_, _++_}
+use mathlib.Core.List.{List, [], _∷_}
 use native.Mathlib.Nat.{mod-lt, div-le-self}
 use native.Mathlib.Omega.{arith}
 use lib.Dec.{leb, ltb, eqb}
@@ -13,16 +13,16 @@ use lib.Seq.{take-at}
 use borrow.Author.Tests.{leb-true, ltb-true, eqb-true}
 use Rattle.lta_spec.specs.Words.{splice, every}
 use Rattle.lta_spec.specs.Refusals.{firstOf}
-use Rattle.lta_spec.specs.Shape.{shapeTests, shapeOk, lagCountOk, runLimit, binLimit, peak}
+use Rattle.lta_spec.specs.Shape.{shapeTests, shapeOk, lagCountOk, runLimit, binLimit}
 use Rattle.lta_spec.specs.Size.{rowWords, memoryWords, hostTests}
 use Rattle.lta_spec.specs.Place.{Stamped, ready}
-use Rattle.lta_spec.specs.Frame.{accumulated, frameLength, frameOf, lagWords, header, within, lagsOk}
+use Rattle.lta_spec.specs.Frame.{accumulated, frameLength, within}
 use Rattle.lta_spec.specs.FrameCalls.{writeVerdict}
 use Rattle.lta_spec.specs.Call.{bankOk, binIndex, emittedFields}
 use Rattle.lta_spec.specs.Call.Call.{emit}
 use Rattle.lta_spec.specs.Row.{ticksOf, edgeOf, centreOf, rowLags, sumOk, rowOk}
 use Rattle.lta_spec.specs.Engine.{Row, binAt, freeBin, freshUnit}
-use Rattle.lta_spec.specs.Damage.{binOk, contentOk, emitSound}
+use Rattle.lta_spec.specs.Damage.{contentOk, emitSound}
 use Rattle.lta_spec.specs.Memory.{runL}
 use Rattle.lta_spec.specs.Step as S
 use Rattle.lta_spec.specs.RoundTrip.{RoundTrip, RowBack, storedBin, emittedTo}
@@ -33,7 +33,7 @@ use Rattle.lta_spec.proofs.WordLaws.{splice-eq}
 use Rattle.lta_spec.proofs.TestLaws.{and-both, and-le, pass, pass-both, first-append}
 use Rattle.lta_spec.proofs.ShapeLaws.{all-at, Shaped, shaped}
 use Rattle.lta_spec.proofs.ByteLaws.{Below}
-use Rattle.lta_spec.proofs.RoundTrips.{Valid, fields-ok, Writes, written, length-written}
+use Rattle.lta_spec.proofs.RoundTrips.{Valid, fields-ok, written, length-written}
 use Rattle.lta_spec.proofs.RoundTrips.{read-written, lags-read, leaves-read, leaves-lags, leaves-again}
 use Rattle.lta_spec.proofs.Encoding.{sums-within}
 use Rattle.lta_spec.proofs.LayoutLaws.{all-get}
@@ -110,7 +110,7 @@ module _ (sh : Shape) (ok : shapeOk sh ≡ true) (c bank bin : ℕ) (b : Stamped
   unfolding S.rowFrame
   row-back =
       record {
-        told = read-written (sh .lags) sent lags room writable;
+        returned = read-written (sh .lags) sent lags room writable;
         lags = lags-read (sh .lags) sent lags room writable;
       }
 

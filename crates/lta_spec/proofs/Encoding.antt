@@ -1,17 +1,16 @@
 -- The encoded clauses of 11 are document 01's: stored sums and their size, register entries and sampler bytes.
 use Prim.Native.Nat.{ℕ, zero, suc, _+_, _*_, _-_, _/_, _%_, _≤_, _<_}
-use mathlib.Core.Path.{_≡_, refl, sym, ap}
+use mathlib.Core.Path.{_≡_, refl, sym}
 use mathlib.Core.Bool.{Bool, true, false, cond}
 use mathlib.Core.List.{List, [], _∷_}
 use native.Mathlib.Omega.{arith}
 use lib.Dec.{leb, ltb}
 use lib.IntN.{pos, negsuc, natAbs, _-ℤ_}
-use lib.ListN.{length}
 use borrow.Author.Tests.{leb-true, leb-false, ltb-true, ltb-false, le-leb, lt-leb, lt-ltb}
 use Rattle.lta_spec.specs.Words.{every}
 use Rattle.lta_spec.specs.Shape.{peak}
 use Rattle.lta_spec.specs.Frame.{within}
-use Rattle.lta_spec.specs.Row.{unbiased, rowLags, sumOk, entryWord, entryOk}
+use Rattle.lta_spec.specs.Row.{unbiased, rowLags, sumOk, entryWord}
 use Rattle.lta_spec.specs.Encoding.{Gives, Encoding}
 use Rattle.lta_spec.proofs.TickLaws.{low-digit, high-digit, twice-eight}
 

@@ -5,7 +5,7 @@ use mathlib.Core.List.{List, [], _∷_, map, append-nil}
 use native.Mathlib.Omega.{arith}
 use lib.ListN.{length, getD, replicate, length-map, length-replicate}
 use lib.Seq.{take-all}
-use Rattle.lta_spec.specs.Refusals.{firstOf, judged}
+use Rattle.lta_spec.specs.Refusals.{firstOf, decided}
 use Rattle.lta_spec.specs.Size.{depth, memoryWords, hostTests}
 use Rattle.lta_spec.specs.Words.{zeros}
 use Rattle.lta_spec.specs.Place.{Bin, lossCount}
@@ -18,9 +18,9 @@ use Rattle.lta_spec.specs.Engine as E
 use Rattle.lta_spec.specs.Memory as W
 use Rattle.lta_spec.specs.Memory.{runL}
 use Rattle.lta_spec.specs.Step as S
-use Rattle.lta_spec.specs.Demand.{Listed, AllStand, Refuses, machineTells, machineRun, engineTells, engineMem}
+use Rattle.lta_spec.specs.Demand.{Listed, AllStand, Refuses, machineReturns, machineRun, engineReturns, engineMem}
 use Rattle.lta_spec.specs.Demand.{overAll}
-use Rattle.lta_spec.specs.Demand.Listed.{usual, odd}
+use Rattle.lta_spec.specs.Demand.Listed.{onRun, onOther}
 use Rattle.lta_spec.specs.declared.Shape.{Shape}
 use Rattle.lta_spec.specs.declared.Refusal.{Refusal}
 use Rattle.lta_spec.specs.declared.Verdict.{Verdict}
@@ -114,7 +114,7 @@ module _ (sh : Shape) (wide : 2 ≤ sh .lags) (e : W.Run) (m : R.Run) (s : SameR
   verdicts =
       rw (sized sh e m s, loaded sh e m s)
       (first-append (hostTests sh (memoryWords sh)) (S.callTests sh call e)
-      ∙ ap (judged (firstOf (hostTests sh (memoryWords sh))) Refused) tests-same
+      ∙ ap (decided (firstOf (hostTests sh (memoryWords sh))) Refused) tests-same
       ∙ sym (first-append (hostTests sh (memoryWords sh)) (R.callTests sh m call)))
 
   pub accepts : R.verdict sh m (memoryWords sh) call ≡ Accepted → firstOf (R.callTests sh m call) ≡ Accepted
@@ -126,10 +126,10 @@ module _ (sh : Shape) (wide : 2 ≤ sh .lags) (e : W.Run) (m : R.Run) (s : SameR
   abbrev Outcome : Verdict → Type 0
   Outcome v =
       SameStep sh
-      (judged v (λ r. record { answer = refusal r; out = lentTo call; mem = (runL sh) .put e })
+      (decided v (λ r. record { answer = refusal r; out = lentTo call; mem = (runL sh) .put e })
       (let d = S.accepted sh call ((runL sh) .get ((runL sh) .put e)) in
       record { answer = d .answer; out = d .out; mem = (runL sh) .put (d .run) }))
-      (judged v (λ r. record { answer = refusal r; out = lentTo call; run = m }) (R.accepted sh call m))
+      (decided v (λ r. record { answer = refusal r; out = lentTo call; run = m }) (R.accepted sh call m))
 
   by-verdict : (v : Verdict) → R.verdict sh m (memoryWords sh) call ≡ v → Outcome v
   by-verdict (Refused r) v = record { answer = refl; out = refl; run = e; mem = refl; same = s }
@@ -138,9 +138,9 @@ module _ (sh : Shape) (wide : 2 ≤ sh .lags) (e : W.Run) (m : R.Run) (s : SameR
       rw (loaded sh e m s)
       (record { answer = d .answer; out = d .out; run = (S.accepted sh call e) .run; mem = refl; same = d .run })
 
-  pub usual-same : SameStep sh (S.step sh call ((runL sh) .put e)) (R.step sh (memoryWords sh) call m)
+  pub run-same : SameStep sh (S.step sh call ((runL sh) .put e)) (R.step sh (memoryWords sh) call m)
   unfolding S.step R.step
-  usual-same = rw verdicts (by-verdict (R.verdict sh m (memoryWords sh) call) refl)
+  run-same = rw verdicts (by-verdict (R.verdict sh m (memoryWords sh) call) refl)
 
 -- a call with another shape or other work memory, which 1 or 2 refuses
 module _ (shape : Shape) (call : Call) (given : List ℕ) (m : R.Run)
@@ -170,17 +170,17 @@ module _ (shape : Shape) (call : Call) (given : List ℕ) (m : R.Run)
 
 -- a list of calls
 pub record Followed (sh : Shape) (cs : List Listed) (e : W.Run) (m : R.Run) : Type 0 where
-  pub tells : engineTells sh cs ((runL sh) .put e) ≡ machineTells sh cs m
+  pub tells : engineReturns sh cs ((runL sh) .put e) ≡ machineReturns sh cs m
   pub run : W.Run
   pub mem : engineMem sh cs ((runL sh) .put e) ≡ (runL sh) .put run
   pub same : SameRun sh run (machineRun sh cs m)
 
 pub follow : (sh : Shape) → 2 ≤ sh .lags → (cs : List Listed) → AllStand cs → (e : W.Run) (m : R.Run) → SameRun sh e m
     → Followed sh cs e m
-unfolding machineTells engineTells machineRun engineMem
+unfolding machineReturns engineReturns machineRun engineMem
 follow sh w [] a e m s = record { tells = refl; run = e; mem = refl; same = s }
-follow sh w (usual call ∷ cs) a e m s =
-    let x = usual-same sh w e m s call in
+follow sh w (onRun call ∷ cs) a e m s =
+    let x = run-same sh w e m s call in
     let y = follow sh w cs (a .1) (x .run) ((R.step sh (memoryWords sh) call m) .run) (x .same) in
     record {
       tells = rw (x .answer, x .out, x .mem, y .tells);
@@ -188,7 +188,7 @@ follow sh w (usual call ∷ cs) a e m s =
       mem = ap (engineMem sh cs) (x .mem) ∙ y .mem;
       same = y .same;
     }
-follow sh w (odd shape call given ∷ cs) a e m s =
+follow sh w (onOther shape call given ∷ cs) a e m s =
     let x = turned shape call given m (a .0) in
     let y = follow sh w cs (a .1) e m s in
     record {
@@ -226,8 +226,8 @@ fresh-same sh some =
       ys = sym empty;
       good =
           record {
-            heardX = refl;
-            heardY = refl;
+            takenX = refl;
+            takenY = refl;
             sound =
                 record {
                   flat = omega (arith, length-replicate (2 * B) M.freeBin);

@@ -10,7 +10,7 @@ use lib.Dec.{ltb, leb, eqb}
 use lib.ListN.{length, getD, set, take, drop, length-map}
 use lib.Seq.{append-snoc, getD-set-same, getD-set-other}
 use borrow.Author.Tests.{leb-true, eqb-true, eqb-false}
-use Rattle.lta_spec.specs.Refusals.{firstOf, judged}
+use Rattle.lta_spec.specs.Refusals.{firstOf, decided}
 use Rattle.lta_spec.specs.Size.{memoryWords}
 use Rattle.lta_spec.specs.Words.{splice}
 use Rattle.lta_spec.specs.Place.{Cell, ready}
@@ -25,8 +25,9 @@ use Rattle.lta_spec.specs.Machine.{Ticks}
 use Rattle.lta_spec.specs.Numbers.{Emitted, lagSums, setFrame}
 use Rattle.lta_spec.specs.MachineRun as R
 use Rattle.lta_spec.specs.Memory as W
-use Rattle.lta_spec.specs.Demand.{Listed, AllStand, machineTells, machineRun, frameIf, frameTold, framesTold}
-use Rattle.lta_spec.specs.Demand.Listed.{usual, odd}
+use Rattle.lta_spec.specs.Demand.{Listed, AllStand, machineReturns, machineRun, frameIf, frameReturned}
+use Rattle.lta_spec.specs.Demand.{framesReturned}
+use Rattle.lta_spec.specs.Demand.Listed.{onRun, onOther}
 use Rattle.lta_spec.specs.declared.Shape.{Shape}
 use Rattle.lta_spec.specs.declared.Verdict.{Verdict}
 use Rattle.lta_spec.specs.declared.Verdict.the-variants.{Accepted, Refused}
@@ -34,9 +35,9 @@ use Rattle.lta_spec.proofs.TestLaws.{pass}
 use Rattle.lta_spec.proofs.FrameLaws.{length-frame}
 use Rattle.lta_spec.proofs.EmittedBack.{front}
 use Rattle.lta_spec.proofs.SameRun.{SameRun, frame-same}
-use Rattle.lta_spec.proofs.Follow.{usual-same, accepts, turned}
+use Rattle.lta_spec.proofs.Follow.{run-same, accepts, turned}
 
--- the frames told so far are those of the unit's sets, whatever bytes come later
+-- the frames returned so far are those of the unit's sets, whatever bytes come later
 abbrev pub Framed : Shape → (c : ℕ) → List (List ℕ) → R.Unit → Type 0
 Framed sh c fs u = (gx gy : List ℕ) → fs ≡ map (setFrame sh c (gx ++ u .xs) (gy ++ u .ys)) (u .frames)
 
@@ -90,8 +91,8 @@ module _ (sh : Shape) (wide : 2 ≤ sh .lags) (e : W.Run) (m : R.Run) (s : SameR
   there = omega (arith, s .cells)
 
   -- an accepted call
-  abbrev toldBy : Call → R.Step → List (List ℕ)
-  toldBy call r = frameTold (sh .lags) c (usual call) (record { answer = r .answer; out = r .out })
+  abbrev returnedBy : Call → R.Step → List (List ℕ)
+  returnedBy call r = frameReturned (sh .lags) c (onRun call) (record { answer = r .answer; out = r .out })
 
   -- a dump or an integration
   moved-framed : (d : ℕ) (cell : Cell Ticks) → Framed sh c fs (R.unitAt sh c (R.withCell sh d cell m))
@@ -131,21 +132,21 @@ module _ (sh : Shape) (wide : 2 ≤ sh .lags) (e : W.Run) (m : R.Run) (s : SameR
           ys = was .ys;
         }
 
-    abbrev toldIf : Bool → List (List ℕ)
-    toldIf b = frameIf b (sh .lags) (number (frameLength accumulated (sh .lags))) (splice out 0 frame)
+    abbrev returnedIf : Bool → List (List ℕ)
+    returnedIf b = frameIf b (sh .lags) (number (frameLength accumulated (sh .lags))) (splice out 0 frame)
 
-    own : d ≡ c → Framed sh c (toldIf true ++ fs) left
+    own : d ≡ c → Framed sh c (returnedIf true ++ fs) left
     own same gx gy =
         ap₂ (λ x y. x ∷ y) (stands ∙ later gx gy ∙ ap (λ k. setFrame sh k (gx ++ was .xs) (gy ++ was .ys) sent) same)
         (subst (λ k. Framed sh c fs (R.unitAt sh k m)) (sym same) p gx gy)
 
-    emitted-framed : Framed sh c (toldIf (eqb d c) ++ fs) (getD (set (m .units) d left) c (R.freshUnit sh))
+    emitted-framed : Framed sh c (returnedIf (eqb d c) ++ fs) (getD (set (m .units) d left) c (R.freshUnit sh))
     emitted-framed = by-test (eqb d c) refl
       where
         by-test : (b : Bool) → eqb d c ≡ b
-            → Framed sh c (toldIf b ++ fs) (getD (set (m .units) d left) c (R.freshUnit sh))
+            → Framed sh c (returnedIf b ++ fs) (getD (set (m .units) d left) c (R.freshUnit sh))
         by-test true q =
-            set-at sh (m .units) c d left (R.freshUnit sh) (toldIf true ++ fs) fs there (λ _. own (eqb-true d c q))
+            set-at sh (m .units) c d left (R.freshUnit sh) (returnedIf true ++ fs) fs there (λ _. own (eqb-true d c q))
             (λ r. let z : _≡_ {A = ℕ} 0 1 = cc in absurd (omega arith)) p
         by-test false q =
             set-at sh (m .units) c d left (R.freshUnit sh) fs fs there
@@ -153,7 +154,7 @@ module _ (sh : Shape) (wide : 2 ≤ sh .lags) (e : W.Run) (m : R.Run) (s : SameR
 
   -- every call
   accepted-framed : (call : Call) → firstOf (R.callTests sh m call) ≡ Accepted
-      → Framed sh c (toldBy call (R.accepted sh call m) ++ fs) (R.unitAt sh c ((R.accepted sh call m) .run))
+      → Framed sh c (returnedBy call (R.accepted sh call m) ++ fs) (R.unitAt sh c ((R.accepted sh call m) .run))
   unfolding R.accepted R.withFrame
   accepted-framed (tick samples) v = tick-at (m .t) samples (m .units) c (R.freshUnit sh) there sh fs p
   accepted-framed (dump d command bank phase block) v = moved-framed d _
@@ -167,49 +168,50 @@ module _ (sh : Shape) (wide : 2 ≤ sh .lags) (e : W.Run) (m : R.Run) (s : SameR
       emitted-framed d bank bin out (x .0) (w .0)
   accepted-framed (reading d lag loss) v = p
 
-  refused-told : (call : Call) (k : ℕ) → toldBy call (record { answer = refused k; out = lentTo call; run = m }) ≡ []
-  refused-told (tick samples) k = refl
-  refused-told (dump d command bank phase block) k = refl
-  refused-told (integrate d) k = refl
-  refused-told (emit d bank bin out) k = by-test (eqb d c)
+  refused-returned : (call : Call) (k : ℕ)
+      → returnedBy call (record { answer = refused k; out = lentTo call; run = m }) ≡ []
+  refused-returned (tick samples) k = refl
+  refused-returned (dump d command bank phase block) k = refl
+  refused-returned (integrate d) k = refl
+  refused-returned (emit d bank bin out) k = by-test (eqb d c)
     where
       by-test : (b : Bool) → frameIf b (sh .lags) (refused k) out ≡ []
       by-test true = refl
       by-test false = refl
-  refused-told (reading d lag loss) k = refl
+  refused-returned (reading d lag loss) k = refl
 
-  usual-framed : (call : Call)
-      → Framed sh c (toldBy call (R.step sh (memoryWords sh) call m) ++ fs)
+  run-framed : (call : Call)
+      → Framed sh c (returnedBy call (R.step sh (memoryWords sh) call m) ++ fs)
       (R.unitAt sh c ((R.step sh (memoryWords sh) call m) .run))
   unfolding R.step
-  usual-framed call = by-verdict (R.verdict sh m (memoryWords sh) call) refl
+  run-framed call = by-verdict (R.verdict sh m (memoryWords sh) call) refl
     where
       after : Verdict → R.Step
       after v =
-          judged v (λ why. record { answer = refusal why; out = lentTo call; run = m }) (R.accepted sh call m)
+          decided v (λ why. record { answer = refusal why; out = lentTo call; run = m }) (R.accepted sh call m)
 
       by-verdict : (v : Verdict) → R.verdict sh m (memoryWords sh) call ≡ v
-          → Framed sh c (toldBy call (after v) ++ fs) (R.unitAt sh c ((after v) .run))
+          → Framed sh c (returnedBy call (after v) ++ fs) (R.unitAt sh c ((after v) .run))
       by-verdict Accepted v = accepted-framed call (accepts sh wide e m s call v)
-      by-verdict (Refused why) v = rw (refused-told call _) p
+      by-verdict (Refused why) v = rw (refused-returned call _) p
 
 -- a list of calls
 pub list-framed : (sh : Shape) → 2 ≤ sh .lags → (cs : List Listed) → AllStand cs → (e : W.Run) (m : R.Run)
     → SameRun sh e m
     → (c : ℕ) → c < sh .cells → (fs : List (List ℕ)) → Framed sh c fs (R.unitAt sh c m)
-    → Framed sh c (framesTold (sh .lags) c cs (machineTells sh cs m) ++ fs) (R.unitAt sh c (machineRun sh cs m))
-unfolding machineTells machineRun
+    → Framed sh c (framesReturned (sh .lags) c cs (machineReturns sh cs m) ++ fs) (R.unitAt sh c (machineRun sh cs m))
+unfolding machineReturns machineRun
 list-framed sh w [] a e m s c h fs p = p
-list-framed sh w (usual call ∷ cs) a e m s c h fs p =
-    let x = usual-same sh w e m s call in
+list-framed sh w (onRun call ∷ cs) a e m s c h fs p =
+    let x = run-same sh w e m s call in
     let r = R.step sh (memoryWords sh) call m in
-    let first = frameTold (sh .lags) c (usual call) (record { answer = r .answer; out = r .out }) in
-    let rest = framesTold (sh .lags) c cs (machineTells sh cs (r .run)) in
-    let q = list-framed sh w cs (a .1) (x .run) (r .run) (x .same) c h _ (usual-framed sh w e m s c h fs p call) in
+    let first = frameReturned (sh .lags) c (onRun call) (record { answer = r .answer; out = r .out }) in
+    let rest = framesReturned (sh .lags) c cs (machineReturns sh cs (r .run)) in
+    let q = list-framed sh w cs (a .1) (x .run) (r .run) (x .same) c h _ (run-framed sh w e m s c h fs p call) in
     λ gx gy. append-assoc rest first fs ∙ q gx gy
-list-framed sh w (odd shape call given ∷ cs) a e m s c h fs p =
+list-framed sh w (onOther shape call given ∷ cs) a e m s c h fs p =
     let x = turned shape call given m (a .0) in
-    let told = framesTold (sh .lags) c cs in
-    subst (λ r. Framed sh c ((told (machineTells sh cs r) ++ []) ++ fs) (R.unitAt sh c (machineRun sh cs r)))
+    let returned = framesReturned (sh .lags) c cs in
+    subst (λ r. Framed sh c ((returned (machineReturns sh cs r) ++ []) ++ fs) (R.unitAt sh c (machineRun sh cs r)))
     (sym (ap (λ z. z .run) (x .machine)))
-    (λ gx gy. append-assoc (told (machineTells sh cs m)) [] fs ∙ list-framed sh w cs (a .1) e m s c h fs p gx gy)
+    (λ gx gy. append-assoc (returned (machineReturns sh cs m)) [] fs ∙ list-framed sh w cs (a .1) e m s c h fs p gx gy)

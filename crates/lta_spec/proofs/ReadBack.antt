@@ -6,7 +6,7 @@ use mathlib.Core.List.{List, [], _∷_, map}
 use native.Mathlib.Omega.{arith}
 use lib.IntN.{pos}
 use lib.ListN.{length, getD}
-use Rattle.lta_spec.specs.Refusals.{judged}
+use Rattle.lta_spec.specs.Refusals.{decided}
 use Rattle.lta_spec.specs.Shape.{shapeOk, runLimit, binLimit}
 use Rattle.lta_spec.specs.Place.{Stamped}
 use Rattle.lta_spec.specs.Frame.{bodyOf, fieldsOf}
@@ -24,7 +24,7 @@ use Rattle.lta_spec.specs.declared.Fields.{Fields}
 use Rattle.lta_spec.specs.declared.Verdict.{Verdict}
 use Rattle.lta_spec.specs.declared.Verdict.the-variants.{Accepted, Refused}
 use Rattle.lta_spec.proofs.RowLaws.{length-numbers, numbers-size, row-ok}
-use Rattle.lta_spec.proofs.SetLaws.{stored-edge, stored-centre, lags-told}
+use Rattle.lta_spec.proofs.SetLaws.{stored-edge, stored-centre, lags-read}
 use Rattle.lta_spec.proofs.LayoutLaws.{All}
 use Rattle.lta_spec.proofs.EmittedBack.{row-back}
 use Rattle.lta_spec.proofs.Carry.{row, mapStamped}
@@ -51,7 +51,7 @@ fieldsIn f (entry s) = f
 fieldsIn f (normal z) = f
 fieldsIn f noData = f
 
-fields-read : (v : Verdict) (f g : Fields) → judged v refusal (fields f) ≡ fields g → f ≡ g
+fields-read : (v : Verdict) (f g : Fields) → decided v refusal (fields f) ≡ fields g → f ≡ g
 unfolding fieldsIn
 fields-read Accepted f g e = ap (fieldsIn f) e
 fields-read (Refused r) f g e = let z : _≡_ {A = ℕ} 0 1 = cc in absurd (omega arith)
@@ -71,10 +71,10 @@ module _ (sh : Shape) (ok : shapeOk sh ≡ true) (c : ℕ) (hc : c < sh .cells) 
       let frame = set-frame sh c xs ys e in
       record {
         few = s .few;
-        told =
-            ap (readAnswer n) (sym frame) ∙ r .told
+        returned =
+            ap (readAnswer n) (sym frame) ∙ r .returned
             ∙ rw (numbers-size n xs ys set, stored-edge n xs ys set, stored-centre n xs ys set);
-        lags = ap (lagsRead n) (sym frame) ∙ r .lags ∙ lags-told n xs ys set;
+        lags = ap (lagsRead n) (sym frame) ∙ r .lags ∙ lags-read n xs ys set;
       }
 
   pub all-back : (es : List Emitted) → All (Sent (sh .bins) t) es
@@ -94,5 +94,5 @@ module _ (sh : Shape) (ok : shapeOk sh ≡ true) (c : ℕ) (hc : c < sh .cells) 
       let z = sums-at n xs ys (e .content .members) n 0 k k (omega arith) h in
       let d : 2 * k + 1 ≡ suc (2 * k) = omega arith in
       let g : fieldsOf (bodyOf f) ≡ sentFields sh c xs ys e =
-      fields-read (readVerdict n f) (fieldsOf (bodyOf f)) (sentFields sh c xs ys e) (r .told) in
+      fields-read (readVerdict n f) (fieldsOf (bodyOf f)) (sentFields sh c xs ys e) (r .returned) in
       rw (g, r .lags, d, z .0, z .1, sums-back k h fs es (a .1))

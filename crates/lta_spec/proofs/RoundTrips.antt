@@ -7,15 +7,15 @@ use Prim.Native.Nat.{ℕ, suc, _+_, _*_, _/_, _%_, _<_, _≤_}
 use native.Mathlib.Omega.{arith}
 use lib.Dec.{leb, ltb, eqb}
 use lib.IntN.{ℤ, pos, negsuc}
-use lib.ListN.{length, getD, take, drop, length-drop, length-map}
+use lib.ListN.{length, take, drop, length-drop, length-map}
 use lib.Seq.{drop-drop}
 use mir.Syntax.{w32}
 use mir.Val.{SFits}
 use borrow.Author.Tests.{leb-true, ltb-true, eqb-true, eq-eqb, le-leb}
 use Rattle.lta_spec.specs.Words.{part, splice}
-use Rattle.lta_spec.specs.Refusals.{test, firstOf, judged}
+use Rattle.lta_spec.specs.Refusals.{test, firstOf, decided}
 use Rattle.lta_spec.specs.Shape.{lagCountOk, binLimit, peak}
-use Rattle.lta_spec.specs.Bytes.{wordRange, wordsOf, numberWord, signed}
+use Rattle.lta_spec.specs.Bytes.{wordRange, numberWord, signed}
 use Rattle.lta_spec.specs.Frame.{
   accumulated,
   headWords,
@@ -34,18 +34,8 @@ use Rattle.lta_spec.specs.Frame.{
   within,
   lagsOk,
 }
-use Rattle.lta_spec.specs.FrameCalls.{
-  marked,
-  summed,
-  ruled,
-  readTests,
-  readVerdict,
-  readAnswer,
-  lagPart,
-  writeVerdict,
-  writeLeaves,
-  normalVerdict,
-}
+use Rattle.lta_spec.specs.FrameCalls.{marked, summed, ruled, readTests, readVerdict, readAnswer}
+use Rattle.lta_spec.specs.FrameCalls.{writeVerdict, writeLeaves, normalVerdict}
 use Rattle.lta_spec.specs.declared.Fields.{Fields}
 use Rattle.lta_spec.specs.declared.Refusal.the-variants.{NoLag}
 use Rattle.lta_spec.specs.declared.Verdict.the-variants as verdict
@@ -197,7 +187,7 @@ written n f zs room w =
 
 -- normalising follows the reader's verdict
 pub normal-follows : (n : ℕ) (s : List ℕ) (k : ℕ)
-    → normalVerdict n s k ≡ judged (readVerdict n s) verdict.Refused (firstOf (test (ltb k n) NoLag ∷ []))
+    → normalVerdict n s k ≡ decided (readVerdict n s) verdict.Refused (firstOf (test (ltb k n) NoLag ∷ []))
 unfolding readVerdict normalVerdict
 normal-follows n s k = first-append (readTests n s) (test (ltb k n) NoLag ∷ [])
 

@@ -1,5 +1,5 @@
 -- The engine's cell and the machine's: what relates them, and that ticks, dumps, integrations and emissions keep it.
-use Prim.Native.Nat.{ℕ, zero, suc, _*_, _≤_, _<_}
+use Prim.Native.Nat.{ℕ, zero, suc, _≤_, _<_}
 use mathlib.Core.Path.{_≡_, refl, sym, ap, ap₂, _∙_, subst, fun-ext}
 use mathlib.Core.Bool.{false}
 use mathlib.Core.List.{List, [], _∷_, _++_, map}
@@ -43,8 +43,8 @@ sent-later B t (e ∷ es) a =
 
 -- the machine's cell: as many bytes as ticks, sound, and each tick once in its places
 pub record Good (B t : ℕ) (m : R.Unit) : Type 0 where
-  pub heardX : length (m .xs) ≡ t
-  pub heardY : length (m .ys) ≡ t
+  pub takenX : length (m .xs) ≡ t
+  pub takenY : length (m .ys) ≡ t
   pub sound : Sound B t (m .cell)
   -- any quantity of the ticks: its sum over the places is its sum over the ticks taken
   pub once : (f : ℕ → ℕ) → overAll (tally f) (places m) ≡ tally f (ticksBelow t)
@@ -105,15 +105,15 @@ module _ (n B t : ℕ) (wide : 2 ≤ n) (x y : ℕ) (e : E.Unit) (m : R.Unit) (s
         cell = λ gx gy.
             let c : e .cell ≡ mapCell (row n (gx ++ x ∷ m .xs) (gy ++ y ∷ m .ys)) (m .cell) =
             rw (append-snoc gx x (m .xs), append-snoc gy y (m .ys)) at (s .cell (gx ++ x ∷ []) (gy ++ y ∷ [])) in
-            let r = new-row ∙ sym (numbers-one n gx (m .xs) gy (m .ys) x y t (s .good .heardX) (s .good .heardY)) in
+            let r = new-row ∙ sym (numbers-one n gx (m .xs) gy (m .ys) x y t (s .good .takenX) (s .good .takenY)) in
             ap₂ (λ q z. E.tickBy n (E.hasRoom n q) z q) c r
             ∙ sym (tick-carry n (gx ++ x ∷ m .xs) (gy ++ y ∷ m .ys) t (m .cell));
         xs = new-xs;
         ys = new-ys;
         good =
             record {
-              heardX = ap suc (s .good .heardX);
-              heardY = ap suc (s .good .heardY);
+              takenX = ap suc (s .good .takenX);
+              takenY = ap suc (s .good .takenY);
               sound = tick-sound B t (m .cell) (s .good .sound);
               once = λ f.
                   omega (
@@ -149,8 +149,8 @@ module _ (n B t : ℕ) (e : E.Unit) (m : R.Unit) (s : Same n B t e m) where
         ys = s .ys;
         good =
             record {
-              heardX = s .good .heardX;
-              heardY = s .good .heardY;
+              takenX = s .good .takenX;
+              takenY = s .good .takenY;
               sound = sound;
               once = λ f. kept f ∙ s .good .once f;
               frames = sent;

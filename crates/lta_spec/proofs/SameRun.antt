@@ -29,7 +29,7 @@ use Rattle.lta_spec.specs.declared.Verdict.{Verdict}
 use Rattle.lta_spec.specs.declared.Verdict.the-variants.{Accepted, Refused}
 use Rattle.lta_spec.proofs.TestLaws.{and-both, pass}
 use Rattle.lta_spec.proofs.RowLaws.{numbers, numbers-size, window}
-use Rattle.lta_spec.proofs.SetLaws.{stored-edge, stored-centre, sums-told, lags-told}
+use Rattle.lta_spec.proofs.SetLaws.{stored-edge, stored-centre, sums-read, lags-read}
 use Rattle.lta_spec.proofs.Carry.{row, mapStamped, mapBin, mapCell, room-carry, bin-carry, loss-carry}
 use Rattle.lta_spec.proofs.Sound.{LabelSound}
 use Rattle.lta_spec.proofs.Intact.{tick-intact, dump-intact, integrate-intact, emit-intact, read-intact}
@@ -287,7 +287,7 @@ unfolding S.rowFrame setFrame mapStamped
 set-frame sh c xs ys e =
     let n = sh .lags in
     let s = e .content .members in
-    rw (lags-told n xs ys s, numbers-size n xs ys s, stored-edge n xs ys s, stored-centre n xs ys s)
+    rw (lags-read n xs ys s, numbers-size n xs ys s, stored-edge n xs ys s, stored-centre n xs ys s)
 
 -- an accepted call
 module _ (sh : Shape) (wide : 2 ≤ sh .lags) (t : ℕ) (es : List E.Unit) (ms : List R.Unit) (limit : t ≤ runLimit)
@@ -374,7 +374,7 @@ module _ (sh : Shape) (wide : 2 ≤ sh .lags) (t : ℕ) (es : List E.Unit) (ms :
         answer =
             ap (λ z. entry (rowSums lag z)) (loss-is sh wide t es ms limit cells units c (a .0) (loss - 1))
             ∙ ap entry
-            (sums-told (sh .lags) (u .xs) (u .ys) (getD (u .cell .losses) (loss - 1) []) lag
+            (sums-read (sh .lags) (u .xs) (u .ys) (getD (u .cell .losses) (loss - 1) []) lag
             (ltb-true lag (sh .lags) (d .0)));
         out = refl;
         run = record { t = refl; limit = limit; cells = cells; units = units };

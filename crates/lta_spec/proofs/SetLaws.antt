@@ -111,8 +111,8 @@ module _ (n : ℕ) (xs ys : List ℕ) where
   stored-centre s = counted (λ i. validAt n (upTo xs i) (upTo ys i) (centreLag n)) 2 (λ i. refl) s
 
   -- a reading of a set's row
-  pub sums-told : (s : Ticks) (k : ℕ) → k < n → rowSums k (numbers n xs ys s) ≡ setSums n xs ys s k
-  sums-told s k h =
+  pub sums-read : (s : Ticks) (k : ℕ) → k < n → rowSums k (numbers n xs ys s) ≡ setSums n xs ys s k
+  sums-read s k h =
       rw (stored-inPhase s k h, stored-quadrature s k h, numbers-size n xs ys s, stored-edge s, stored-centre s)
 
   -- the lag pairs of a set's row, from lag k on
@@ -133,6 +133,6 @@ module _ (n : ℕ) (xs ys : List ℕ) where
       rw (first, second, stored-inPhase s k (omega arith), stored-quadrature s k (omega arith))
       (ap (λ z. inPhaseSum n xs ys s k ∷ quadratureSum n xs ys s k ∷ z) (lags-from s m (suc k) (omega arith)))
 
-  pub lags-told : (s : Ticks)
+  pub lags-read : (s : Ticks)
       → rowLags (ticksOf (numbers n xs ys s)) (drop 3 (numbers n xs ys s)) ≡ lagSums n xs ys s n 0
-  lags-told s = lags-from s n 0 (omega arith)
+  lags-read s = lags-from s n 0 (omega arith)

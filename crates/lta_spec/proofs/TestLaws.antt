@@ -4,12 +4,12 @@ use mathlib.Core.Bool.{Bool, true, false, cond, _&&_, and-assoc, and-true}
 use mathlib.Core.List.{List, [], _∷_, _++_}
 use Prim.Native.Nat.{ℕ, suc, _<_, _≤_}
 use native.Mathlib.Omega.{arith}
-use lib.Dec.{leb}
+use lib.Dec.{T, leb}
 use lib.ListN.{length, getD, take}
 use lib.Seq.{take-suc}
 use borrow.Author.Tests.{leb-true}
 use Rattle.lta_spec.specs.Words.{every}
-use Rattle.lta_spec.specs.Refusals.{Test, firstOf, judged}
+use Rattle.lta_spec.specs.Refusals.{Test, firstOf, decided}
 use Rattle.lta_spec.specs.declared.Refusal.{Refusal}
 use Rattle.lta_spec.specs.declared.Verdict.{Verdict}
 use Rattle.lta_spec.specs.declared.Verdict.the-variants.{Accepted, Refused}
@@ -18,6 +18,15 @@ pub and-both : (a b : Bool) → a && b ≡ true → (a ≡ true) × (b ≡ true)
 and-both true b e = (refl, e)
 and-both false true e = (e, refl)
 and-both false false e = (e, e)
+
+-- of a test that antt computes
+pub and-left : (a b : Bool) → T (a && b) → T a
+and-left true b t = tt
+and-left false b t = t
+
+pub and-right : (a b : Bool) → T (a && b) → T b
+and-right true b t = t
+and-right false b t = absurd t
 
 pub and-le : (a b : ℕ) (t : Bool) → leb a b && t ≡ true → (a ≤ b) × (t ≡ true)
 and-le a b t e = let q = and-both (leb a b) t e in (leb-true a b (q .0), q .1)
@@ -37,17 +46,17 @@ pass true v r e = (refl, e)
 pass false v r e = let z : _≡_ {A = ℕ} 0 1 = cc in absurd (omega arith)
 
 -- more tests behind those of a list are tried where those pass
-pub first-append : (xs ys : List Test) → firstOf (xs ++ ys) ≡ judged (firstOf xs) Refused (firstOf ys)
+pub first-append : (xs ys : List Test) → firstOf (xs ++ ys) ≡ decided (firstOf xs) Refused (firstOf ys)
 first-append [] ys = refl
 first-append (x ∷ xs) ys =
     ap (λ (v : Verdict). cond (x .passes) v (Refused (x .otherwise))) (first-append xs ys)
     ∙ one (x .passes) (firstOf xs) (firstOf ys) (x .otherwise)
   where
     one : (b : Bool) (v w : Verdict) (r : Refusal)
-        → cond b (judged v Refused w) (Refused r) ≡ judged (cond b v (Refused r)) Refused w
+        → cond b (decided v Refused w) (Refused r) ≡ decided (cond b v (Refused r)) Refused w
     one true v w r = refl
     one false v w r = refl
 
-pub pass-both : (v w : Verdict) → judged v Refused w ≡ Accepted → (v ≡ Accepted) × (w ≡ Accepted)
+pub pass-both : (v w : Verdict) → decided v Refused w ≡ Accepted → (v ≡ Accepted) × (w ≡ Accepted)
 pass-both Accepted w e = (refl, e)
 pass-both (Refused r) w e = let z : _≡_ {A = ℕ} 0 1 = cc in absurd (omega arith)

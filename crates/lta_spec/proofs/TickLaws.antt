@@ -13,6 +13,7 @@ use Rattle.lta_spec.specs.Shape.{peak}
 use Rattle.lta_spec.specs.Tick.{xDelay, yDelay}
 use Rattle.lta_spec.specs.Tick.{Entry, nibble, fromByte, product, weights, weight, inPhase, quadrature}
 use Rattle.lta_spec.specs.Row.{biased, entryWord, fromWord}
+use Rattle.lta_spec.proofs.TestLaws.{and-left, and-right}
 
 -- the size of a product of whole numbers is the product of their sizes
 size-neg : (n : ℕ) → natAbs (negℤ (pos n)) ≡ n
@@ -29,14 +30,6 @@ size-mul (negsuc m) (negsuc n) = ap natAbs (negsuc-*ℤ-negsuc m n)
 abbrev allWithin : ℕ → List ℤ → Bool
 allWithin b [] = true
 allWithin b (z ∷ zs) = leb (natAbs z) b && allWithin b zs
-
-and-left : (a b : Bool) → T (a && b) → T a
-and-left true b t = tt
-and-left false b t = t
-
-and-right : (a b : Bool) → T (a && b) → T b
-and-right true b t = t
-and-right false b t = absurd t
 
 within-at : (b : ℕ) (zs : List ℤ) → T (allWithin b zs) → (k : ℕ) → natAbs (getD zs k (pos 0)) ≤ b
 within-at b [] t k = omega arith

@@ -7,7 +7,6 @@ use mathlib.Core.List.{List, [], _∷_, map}
 use native.Mathlib.Nat.{not-suc-le-zero}
 use native.Mathlib.Omega.{arith}
 use lib.Dec.{eqb}
-use lib.ListN.{length}
 use lib.IntN.{ℤ, pos, negsuc, negℤ, _+ℤ_, _-ℤ_, pos-+ℤ-pos, +ℤ-idr, +ℤ-idl, negℤ-+ℤ}
 use borrow.Author.Tests.{eqb-true, eqb-false, ne-eqb}
 use Rattle.lta_spec.specs.Machine.{Ticks}

@@ -88,6 +88,13 @@ splice-eq (x ∷ l) zero (v ∷ vs) h =
 splice-eq (x ∷ l) (suc at) vs h = rw suc-add (ap (λ (r : List ℕ). x ∷ r) (splice-eq l at vs (omega arith)))
 
 -- two splices, one behind the other
+-- all words replaced
+pub splice-whole : (l vs : List ℕ) → length vs ≡ length l → splice l 0 vs ≡ vs
+splice-whole [] [] e = refl
+splice-whole [] (v ∷ vs) e = absurd (omega (arith, e))
+splice-whole (x ∷ l) [] e = absurd (omega (arith, e))
+splice-whole (x ∷ l) (v ∷ vs) e = ap (λ (r : List ℕ). v ∷ r) (splice-whole l vs (omega (arith, e)))
+
 pub splice-append : (l : List ℕ) (at : ℕ) (vs ws : List ℕ)
     → splice (splice l at vs) (at + length vs) ws ≡ splice l at (vs ++ ws)
 splice-append [] at vs ws = refl
@@ -111,6 +118,10 @@ sums-next (a ∷ xs) (b ∷ ys) x y e = ap (λ (r : List ℕ). (a + b) ∷ r) (s
 
 pub length-zeros : (n : ℕ) → length (zeros n) ≡ n
 length-zeros n = length-replicate n 0
+
+pub zeros-add : (m n : ℕ) → zeros m ++ zeros n ≡ zeros (m + n)
+zeros-add zero n = rw zero-add
+zeros-add (suc m) n = rw suc-add (ap (λ (r : List ℕ). 0 ∷ r) (zeros-add m n))
 
 -- a part, by its words
 module _ (l : List ℕ) (at n : ℕ) where

@@ -1,6 +1,6 @@
 -- Document 01, "Who may be told no": "Where several apply, the order stands after each group." Rows of calls to which
--- several apply: on forged work memory, since demand 3 never meets 11, and on frames. proofs/AnswerOrder.antt proves
--- them.
+-- several apply: on work memory set by the row, since demand 3 never meets 11, and on frames. proofs/AnswerOrder.antt
+-- proves them.
 use Prim.Native.Nat.{ℕ, _+_}
 use mathlib.Core.Path.{_≡_}
 use mathlib.Core.List.{List, [], _∷_, _++_, map}
@@ -22,8 +22,8 @@ use Rattle.lta_spec.specs.Edges.{scriptShape, scriptFrame}
 use Rattle.lta_spec.specs.declared.Fields.{Fields}
 
 -- a fresh run of the script's shape but for t, Held's flag and the newest entry of X's register
-abbrev pub forged : (t flag entry : ℕ) → List ℕ
-forged t flag entry =
+abbrev pub memWith : (t flag entry : ℕ) → List ℕ
+memWith t flag entry =
     let u = freshUnit (scriptShape .lags) (scriptShape .bins) in
     let c = u .cell in
     let held : Held Row = record { occupied = flag; label = c .held .label; content = c .held .content } in
@@ -31,9 +31,9 @@ forged t flag entry =
     (runL scriptShape) .put
     (record { t = t; units = record { cell = cell; xs = entry ∷ 0 ∷ []; ys = u .ys } ∷ [] })
 
--- what each call is told on the same work memory
-abbrev pub told : (mem : List ℕ) → List Call → List Answer
-told mem calls = map (λ call. (step scriptShape call mem) .answer) calls
+-- what each call answers on the same work memory
+abbrev pub returned : (mem : List ℕ) → List Call → List Answer
+returned mem calls = map (λ call. (step scriptShape call mem) .answer) calls
 
 abbrev pub refusals : List ℕ → List Answer
 refusals ks = map refused ks
@@ -48,23 +48,23 @@ noTicks = emittedFields scriptShape 0 0 0 0 0 0 0
 
 pub record Orders : Type 0 where
   -- "3 .. 4 .. Then 11": the run is full, and 256 is no entry of a register
-  pub sampler : told (forged runLimit 0 256) (tick (0 ∷ []) ∷ tick (0 ∷ 0 ∷ []) ∷ []) ≡ refusals (3 ∷ 4 ∷ [])
-  pub sampler-last : told (forged 0 0 256) (tick (0 ∷ []) ∷ tick (0 ∷ 0 ∷ []) ∷ []) ≡ refusals (3 ∷ 11 ∷ [])
+  pub sampler : returned (memWith runLimit 0 256) (tick (0 ∷ []) ∷ tick (0 ∷ 0 ∷ []) ∷ []) ≡ refusals (3 ∷ 4 ∷ [])
+  pub sampler-last : returned (memWith 0 0 256) (tick (0 ∷ []) ∷ tick (0 ∷ 0 ∷ []) ∷ []) ≡ refusals (3 ∷ 11 ∷ [])
   -- "Order 5, 6, 7, 11, for every command": t is too high; then a flag of 2
-  pub commander : told (forged (runLimit + 1) 0 0)
+  pub commander : returned (memWith (runLimit + 1) 0 0)
       (dump 1 3 2 0 0 ∷ dump 0 3 2 0 0 ∷ dump 0 2 2 0 0 ∷ dump 0 4 2 0 0 ∷ dump 0 7 2 0 0 ∷ [])
       ≡ refusals (5 ∷ 6 ∷ 7 ∷ 7 ∷ 7 ∷ [])
-  pub commander-last : told (forged 0 2 0) (dump 0 2 0 0 0 ∷ dump 0 4 0 0 0 ∷ dump 0 7 0 0 0 ∷ [])
+  pub commander-last : returned (memWith 0 2 0) (dump 0 2 0 0 0 ∷ dump 0 4 0 0 0 ∷ dump 0 7 0 0 0 ∷ [])
       ≡ refusals (11 ∷ 11 ∷ 11 ∷ [])
   -- "Order 5, 11, then 8"
-  pub integrator : told (forged (runLimit + 1) 0 0) (integrate 1 ∷ integrate 0 ∷ []) ≡ refusals (5 ∷ 11 ∷ [])
-  pub integrator-last : told (forged 0 2 0) (integrate 0 ∷ []) ≡ refusals (11 ∷ [])
+  pub integrator : returned (memWith (runLimit + 1) 0 0) (integrate 1 ∷ integrate 0 ∷ []) ≡ refusals (5 ∷ 11 ∷ [])
+  pub integrator-last : returned (memWith 0 2 0) (integrate 0 ∷ []) ≡ refusals (11 ∷ [])
   -- "Order 5, 7 .., 11, 9 .., 10": t is too high; then no bin is Ready, and the buffer is empty
-  pub taker : told (forged (runLimit + 1) 0 0) (emit 1 2 0 [] ∷ emit 0 2 0 [] ∷ emit 0 0 0 [] ∷ [])
+  pub taker : returned (memWith (runLimit + 1) 0 0) (emit 1 2 0 [] ∷ emit 0 2 0 [] ∷ emit 0 0 0 [] ∷ [])
       ≡ refusals (5 ∷ 7 ∷ 11 ∷ [])
-  pub taker-last : told (forged 0 0 0) (emit 0 0 0 [] ∷ []) ≡ refusals (9 ∷ [])
+  pub taker-last : returned (memWith 0 0 0) (emit 0 0 0 [] ∷ []) ≡ refusals (9 ∷ [])
   -- "5, 12 .., 11"
-  pub reader : told (forged (runLimit + 1) 0 0) (reading 1 2 0 ∷ reading 0 2 0 ∷ reading 0 0 1 ∷ [])
+  pub reader : returned (memWith (runLimit + 1) 0 0) (reading 1 2 0 ∷ reading 0 2 0 ∷ reading 0 0 1 ∷ [])
       ≡ refusals (5 ∷ 12 ∷ 11 ∷ [])
   -- "1 for N, then 13 .., 14 .., 15 .., 16"; "Normalising: 12 last"
   pub sender : readAnswer 3 [] ∷ map (readAnswer 2) ([] ∷ replicate 50 0 ∷ zeroFrame 1 ∷ zeroFrame 0 ∷ [])

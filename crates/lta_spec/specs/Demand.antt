@@ -44,8 +44,8 @@ use Rattle.lta_spec.specs.declared.Verdict.the-variants.{Accepted, Refus
 -- A call as it stands in a list: on the run's own work memory with the setup's shape, or with another shape or other
 -- work memory, whose words are `given`.
 pub data Listed : Type 0 where
-  usual : Call → Listed
-  odd : Shape → Call → (given : List ℕ) → Listed
+  onRun : Call → Listed
+  onOther : Shape → Call → (given : List ℕ) → Listed
 
 abbrev pub Refuses : Verdict → Type 0
 Refuses Accepted = ⊥
@@ -53,27 +53,27 @@ Refuses (Refused r) = Prim.Unit {0}
 
 -- "A call with another shape or length of work memory stands there only if 1 or 2 refuses it."
 abbrev pub Stands : Listed → Type 0
-Stands (usual call) = Prim.Unit {0}
-Stands (odd shape call given) = Refuses (firstOf (hostTests shape (length given)))
+Stands (onRun call) = Prim.Unit {0}
+Stands (onOther shape call given) = Refuses (firstOf (hostTests shape (length given)))
 
 abbrev pub AllStand : List Listed → Type 0
 AllStand [] = Prim.Unit {0}
 AllStand (c ∷ cs) = Stands c × AllStand cs
 
 -- what a call tells: its answer, and the frame buffer as it left it
-pub record Told : Type 0 where
+pub record Returned : Type 0 where
   pub answer : Answer
   pub out : List ℕ
 
 -- The plain machine: "fed the arguments of setup and of each call, of work memory the length alone".
 abbrev pub machineStep : Shape → Listed → M.Run → M.Step
-machineStep sh (usual call) r = M.step sh (memoryWords sh) call r
-machineStep sh (odd shape call given) r = M.step shape (length given) call r
+machineStep sh (onRun call) r = M.step sh (memoryWords sh) call r
+machineStep sh (onOther shape call given) r = M.step shape (length given) call r
 
-unfoldable pub machineTells : Shape → List Listed → M.Run → List Told
-machineTells sh [] r = []
-machineTells sh (c ∷ cs) r =
-    let s = machineStep sh c r in record { answer = s .answer; out = s .out } ∷ machineTells sh cs (s .run)
+unfoldable pub machineReturns : Shape → List Listed → M.Run → List Returned
+machineReturns sh [] r = []
+machineReturns sh (c ∷ cs) r =
+    let s = machineStep sh c r in record { answer = s .answer; out = s .out } ∷ machineReturns sh cs (s .run)
 
 unfoldable pub machineRun : Shape → List Listed → M.Run → M.Run
 machineRun sh [] r = r
@@ -84,14 +84,14 @@ machineAfter sh cs = machineRun sh cs (M.start sh)
 
 -- The engine: "Each call gets work memory .. as the call before left .. it, and nothing else writes them meanwhile."
 abbrev pub engineStep : Shape → Listed → (mem : List ℕ) → S.Step
-engineStep sh (usual call) mem = S.step sh call mem
-engineStep sh (odd shape call given) mem =
+engineStep sh (onRun call) mem = S.step sh call mem
+engineStep sh (onOther shape call given) mem =
     let s = S.step shape call given in record { answer = s .answer; out = s .out; mem = mem }
 
-unfoldable pub engineTells : Shape → List Listed → (mem : List ℕ) → List Told
-engineTells sh [] mem = []
-engineTells sh (c ∷ cs) mem =
-    let s = engineStep sh c mem in record { answer = s .answer; out = s .out } ∷ engineTells sh cs (s .mem)
+unfoldable pub engineReturns : Shape → List Listed → (mem : List ℕ) → List Returned
+engineReturns sh [] mem = []
+engineReturns sh (c ∷ cs) mem =
+    let s = engineStep sh c mem in record { answer = s .answer; out = s .out } ∷ engineReturns sh cs (s .mem)
 
 unfoldable pub engineMem : Shape → List Listed → (mem : List ℕ) → List ℕ
 engineMem sh [] mem = mem
@@ -106,8 +106,8 @@ memAfter sh cs = engineMem sh cs (freshMem sh)
 
 -- a call with other work memory leaves that as it was
 abbrev pub Keeps : Listed → Type 0
-Keeps (usual call) = Prim.Unit {0}
-Keeps (odd shape call given) = (S.step shape call given) .mem ≡ given
+Keeps (onRun call) = Prim.Unit {0}
+Keeps (onOther shape call given) = (S.step shape call given) .mem ≡ given
 
 abbrev pub AllKeep : List Listed → Type 0
 AllKeep [] = Prim.Unit {0}
@@ -176,18 +176,18 @@ frameIf true n (normal z) out = []
 frameIf true n noData out = []
 frameIf false n a out = []
 
-abbrev pub frameTold : (n c : ℕ) → Listed → Told → List (List ℕ)
-frameTold n c (usual (emit d bank bin out)) t = frameIf (eqb d c) n (t .answer) (t .out)
-frameTold n c (usual (tick samples)) t = []
-frameTold n c (usual (dump d command bank phase block)) t = []
-frameTold n c (usual (integrate d)) t = []
-frameTold n c (usual (reading d lag loss)) t = []
-frameTold n c (odd shape call given) t = []
+abbrev pub frameReturned : (n c : ℕ) → Listed → Returned → List (List ℕ)
+frameReturned n c (onRun (emit d bank bin out)) t = frameIf (eqb d c) n (t .answer) (t .out)
+frameReturned n c (onRun (tick samples)) t = []
+frameReturned n c (onRun (dump d command bank phase block)) t = []
+frameReturned n c (onRun (integrate d)) t = []
+frameReturned n c (onRun (reading d lag loss)) t = []
+frameReturned n c (onOther shape call given) t = []
 
-abbrev pub framesTold : (n c : ℕ) → List Listed → List Told → List (List ℕ)
-framesTold n c [] ts = []
-framesTold n c (l ∷ ls) [] = []
-framesTold n c (l ∷ ls) (t ∷ ts) = framesTold n c ls ts ++ frameTold n c l t
+abbrev pub framesReturned : (n c : ℕ) → List Listed → List Returned → List (List ℕ)
+framesReturned n c [] ts = []
+framesReturned n c (l ∷ ls) [] = []
+framesReturned n c (l ∷ ls) (t ∷ ts) = framesReturned n c ls ts ++ frameReturned n c l t
 
 -- The fields of the frame of a set, "The frame" again in numbers: W0 the cell, W1 Y block, data bin and bank, W2 to W4
 -- ticks, centre and edge count, W5 the second and W6 the ticks of the stamp.
@@ -210,7 +210,7 @@ sentFields sh c xs ys e =
 -- sums themselves, with no wrap at 32 bits.
 pub record ReadBack (sh : Shape) (c : ℕ) (xs ys : List ℕ) (frame : List ℕ) (e : Emitted) : Type 0 where
   pub few : length (e .content .members) ≤ 16777215
-  pub told : readAnswer (sh .lags) frame ≡ fields (sentFields sh c xs ys e)
+  pub returned : readAnswer (sh .lags) frame ≡ fields (sentFields sh c xs ys e)
   pub lags : lagsRead (sh .lags) frame ≡ lagSums (sh .lags) xs ys (e .content .members) (sh .lags) 0
 
 -- frames and the machine's sets, one by one
@@ -247,9 +247,9 @@ pub record AddUp (parts : List Sums) (whole : Sums) : Type 0 where
 -- Demand 3, of one list of calls
 pub record Demand3 (sh : Shape) (cs : List Listed) : Type 0 where
   -- call by call the machine's answers, and the frame buffers as they were left
-  pub tells : engineTells sh cs (freshMem sh) ≡ machineTells sh cs (M.start sh)
+  pub tells : engineReturns sh cs (freshMem sh) ≡ machineReturns sh cs (M.start sh)
   -- "11 never arises"
-  pub clean : (t : Told) → List·Memᴰ t (engineTells sh cs (freshMem sh)) → t .answer ≡ refused 11 → ⊥
+  pub clean : (t : Returned) → List·Memᴰ t (engineReturns sh cs (freshMem sh)) → t .answer ≡ refused 11 → ⊥
   -- other work memory is left alone
   pub others : AllKeep cs
   -- work memory keeps its length, and t is the machine's
@@ -260,7 +260,7 @@ pub record Demand3 (sh : Shape) (cs : List Listed) : Type 0 where
       → EqualCell (sh .lags) (S.unitAt sh c ((runL sh) .get (memAfter sh cs))) (M.unitAt sh c (machineAfter sh cs))
   -- every emitted frame: its bytes as its call left them are those of its set's numbers
   pub frames : (c : ℕ) → c < sh .cells
-      → framesTold (sh .lags) c cs (engineTells sh cs (freshMem sh))
+      → framesReturned (sh .lags) c cs (engineReturns sh cs (freshMem sh))
       ≡ map (setFrame sh c ((M.unitAt sh c (machineAfter sh cs)) .xs) ((M.unitAt sh c (machineAfter sh cs)) .ys))
       ((M.unitAt sh c (machineAfter sh cs)) .frames)
   -- each tick taken is in exactly one place of every cell, and nothing else is in any
@@ -275,12 +275,12 @@ pub record Demand3 (sh : Shape) (cs : List Listed) : Type 0 where
   -- every emitted frame, read back, is the machine's in numbers
   pub read-back : (c : ℕ) → c < sh .cells
       → let u = M.unitAt sh c (machineAfter sh cs) in
-      AllRead sh c (u .xs) (u .ys) (framesTold (sh .lags) c cs (engineTells sh cs (freshMem sh))) (u .frames)
+      AllRead sh c (u .xs) (u .ys) (framesReturned (sh .lags) c cs (engineReturns sh cs (freshMem sh))) (u .frames)
   -- of every cell and lag, the numbers in work memory and those of the frames read back are, added up, the numbers of
   -- all ticks taken
   pub totals : (c k : ℕ) → c < sh .cells → k < sh .lags
       → let u = M.unitAt sh c (machineAfter sh cs) in
       AddUp
       (map (rowSums k) (rows (S.cellAt sh c ((runL sh) .get (memAfter sh cs))))
-      ++ map (readSums (sh .lags) k) (framesTold (sh .lags) c cs (engineTells sh cs (freshMem sh))))
+      ++ map (readSums (sh .lags) k) (framesReturned (sh .lags) c cs (engineReturns sh cs (freshMem sh))))
       (setSums (sh .lags) (u .xs) (u .ys) (ticksBelow ((machineAfter sh cs) .t)) k)

@@ -24,10 +24,10 @@ use Rattle.lta_spec.specs.MachineRun as R
 use Rattle.lta_spec.specs.Engine as E
 use Rattle.lta_spec.specs.Engine.{Row}
 use Rattle.lta_spec.specs.Row.{ticksOf}
-use Rattle.lta_spec.specs.Demand.{Listed, Told, machineTells, engineTells, freshMem}
-use Rattle.lta_spec.specs.Demand.Listed.{usual}
+use Rattle.lta_spec.specs.Demand.{Listed, Returned, machineReturns, engineReturns, freshMem}
+use Rattle.lta_spec.specs.Demand.Listed.{onRun}
 use Rattle.lta_spec.specs.Step.{Foreseen}
-use Rattle.lta_spec.specs.WorkedRun.{quiet, minus, workedShape, workedRun, workedFrame, callsOf, toldBy}
+use Rattle.lta_spec.specs.WorkedRun.{answerOnly, minus, workedShape, workedRun, workedFrame, callsOf, returnedBy}
 use Rattle.lta_spec.specs.declared.Shape.{Shape}
 use Rattle.lta_spec.specs.declared.Refusal.{Refusal}
 use Rattle.lta_spec.specs.declared.Refusal.the-variants as no
@@ -42,28 +42,28 @@ scriptShape = record { cells = 1; lags = 2; bins = 2; blocks = 1; start = 0; rat
 -- "TK 02 03, TK 01 0F, TK 08 02 (hexadecimal), DP 0 2 0 0 0, IN 0, EM 0 0 0, IN 0"
 abbrev pub script : List Listed
 script =
-    usual (tick (2 ∷ 3 ∷ []))
-    ∷ usual (tick (1 ∷ 15 ∷ []))
-    ∷ usual (tick (8 ∷ 2 ∷ []))
-    ∷ usual (dump 0 2 0 0 0)
-    ∷ usual (integrate 0)
-    ∷ usual (emit 0 0 0 (replicate 50 0))
-    ∷ usual (integrate 0)
+    onRun (tick (2 ∷ 3 ∷ []))
+    ∷ onRun (tick (1 ∷ 15 ∷ []))
+    ∷ onRun (tick (8 ∷ 2 ∷ []))
+    ∷ onRun (dump 0 2 0 0 0)
+    ∷ onRun (integrate 0)
+    ∷ onRun (emit 0 0 0 (replicate 50 0))
+    ∷ onRun (integrate 0)
     ∷ []
 
 -- "EM 0 2 0 3 2 1 0 0 6 0 10 0 24" behind the mark, byte by byte
 abbrev pub scriptFrame : List ℕ
 scriptFrame = mark ++ bytesOf (2 ∷ 0 ∷ 3 ∷ 2 ∷ 1 ∷ 0 ∷ 0 ∷ 6 ∷ 0 ∷ 10 ∷ 0 ∷ 24 ∷ [])
 
-abbrev pub scriptTold : List Told
-scriptTold =
-    quiet (number 0)
-    ∷ quiet (number 0)
-    ∷ quiet (number 0)
-    ∷ quiet (number 0)
-    ∷ quiet (number 0)
+abbrev pub scriptReturned : List Returned
+scriptReturned =
+    answerOnly (number 0)
+    ∷ answerOnly (number 0)
+    ∷ answerOnly (number 0)
+    ∷ answerOnly (number 0)
+    ∷ answerOnly (number 0)
     ∷ record { answer = number 50; out = scriptFrame }
-    ∷ quiet (refused 8)
+    ∷ answerOnly (refused 8)
     ∷ []
 
 -- a shape with M blocks and B bins, S = 0
@@ -113,11 +113,11 @@ joined b c =
 
 pub record Edges : Type 0 where
   -- P1 the frame above
-  pub p1-machine : machineTells scriptShape script (R.start scriptShape) ≡ scriptTold
-  pub p1-engine : engineTells scriptShape script (freshMem scriptShape) ≡ scriptTold
+  pub p1-machine : machineReturns scriptShape script (R.start scriptShape) ≡ scriptReturned
+  pub p1-engine : engineReturns scriptShape script (freshMem scriptShape) ≡ scriptReturned
   -- the worked run; the mark, W0 and W1 of its frame as bytes
-  pub worked-machine : machineTells workedShape (callsOf workedRun) (R.start workedShape) ≡ toldBy workedRun
-  pub worked-engine : engineTells workedShape (callsOf workedRun) (freshMem workedShape) ≡ toldBy workedRun
+  pub worked-machine : machineReturns workedShape (callsOf workedRun) (R.start workedShape) ≡ returnedBy workedRun
+  pub worked-engine : engineReturns workedShape (callsOf workedRun) (freshMem workedShape) ≡ returnedBy workedRun
   pub worked-bytes : take 10 workedFrame ≡ 0x4C ∷ 0x54 ∷ 0x02 ∷ 0x08 ∷ 0 ∷ 0 ∷ 0 ∷ 0x16 ∷ 0x05 ∷ 0x80 ∷ []
   -- P2 N=2 lag 0: delays 0 and 1; lag 1: 1 and 1
   pub p2-lag0 : (xDelay 0 ≡ 0) × (yDelay 2 0 ≡ 1)

@@ -2,7 +2,6 @@
 use Prim.Native.Nat.{ℕ, _*_, _<_}
 use mathlib.Core.Path.{_≡_}
 use mathlib.Core.Bool.{true}
-use Rattle.lta_spec.specs.Shape.{peak}
 use Rattle.lta_spec.specs.Frame.{within}
 use Rattle.lta_spec.specs.Row.{unbiased, sumOk, entryWord, entryOk}
 

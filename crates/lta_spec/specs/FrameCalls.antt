@@ -8,7 +8,7 @@ use lib.IntN.{ℤ, pos}
 use lib.Ieee.{Float, binary64, div, ofInt}
 use lib.ListN.{length, getD, take}
 use Rattle.lta_spec.specs.Words.{part, splice}
-use Rattle.lta_spec.specs.Refusals.{Test, test, firstOf, judged}
+use Rattle.lta_spec.specs.Refusals.{Test, test, firstOf, decided}
 use Rattle.lta_spec.specs.Answer.{Answer, refusal}
 use Rattle.lta_spec.specs.Answer.Answer.{number, fields, normal, noData}
 use Rattle.lta_spec.specs.Shape.{lagCountOk}
@@ -62,11 +62,11 @@ readVerdict n s = firstOf (readTests n s)
 
 -- the reader returns the fields
 abbrev pub readAnswer : (n : ℕ) (s : List ℕ) → Answer
-readAnswer n s = judged (readVerdict n s) refusal (fields (fieldsOf (bodyOf s)))
+readAnswer n s = decided (readVerdict n s) refusal (fields (fieldsOf (bodyOf s)))
 
 -- "the part of the caller's bytes that holds the lag pairs", "the empty part where the reader refuses"
 abbrev pub lagPart : (n : ℕ) (s : List ℕ) → List ℕ
-lagPart n s = judged (readVerdict n s) (λ r. []) (part (lagsAt accumulated) (8 * n) s)
+lagPart n s = decided (readVerdict n s) (λ r. []) (part (lagsAt accumulated) (8 * n) s)
 
 -- what the writer of fields and lag numbers may be told, in order; room is the length of the buffer
 unfoldable pub writeVerdict : (n : ℕ) → Fields → List ℤ → (room : ℕ) → Verdict
@@ -80,12 +80,12 @@ writeVerdict n f zs room =
 -- the writer "answers the frame's length"
 abbrev pub writeAnswer : (n : ℕ) → Fields → List ℤ → (room : ℕ) → Answer
 writeAnswer n f zs room =
-    judged (writeVerdict n f zs room) refusal (number (frameLength (f .kind) n))
+    decided (writeVerdict n f zs room) refusal (number (frameLength (f .kind) n))
 
 -- what it leaves in the buffer: "bytes of any lent buffer past what a call writes keep their contents"
 abbrev pub writeLeaves : (n : ℕ) → Fields → List ℤ → (out : List ℕ) → List ℕ
 writeLeaves n f zs out =
-    judged (writeVerdict n f zs (length out)) (λ r. out) (splice out 0 (frameOf (header f) (lagWords zs)))
+    decided (writeVerdict n f zs (length out)) (λ r. out) (splice out 0 (frameOf (header f) (lagWords zs)))
 
 -- "one division each on exactly converted numbers", in f64
 abbrev pub quotient : ℤ → ℕ → Float
@@ -106,4 +106,4 @@ unfoldable pub normalVerdict : (n : ℕ) (s : List ℕ) (k : ℕ) → Verdict
 normalVerdict n s k = firstOf (readTests n s ++ test (ltb k n) NoLag ∷ [])
 
 abbrev pub normalAnswer : (n : ℕ) (s : List ℕ) (k : ℕ) → Answer
-normalAnswer n s k = judged (normalVerdict n s k) refusal (normalOf (bodyOf s) k)
+normalAnswer n s k = decided (normalVerdict n s k) refusal (normalOf (bodyOf s) k)

@@ -6,7 +6,7 @@ use mathlib.Core.List.{List, [], _∷_, _++_}
 use lib.Dec.{leb, ltb, eqb}
 use lib.ListN.{length, getD, set, drop, replicate}
 use Rattle.lta_spec.specs.Words.{splice}
-use Rattle.lta_spec.specs.Refusals.{Test, test, firstOf, judged}
+use Rattle.lta_spec.specs.Refusals.{Test, test, firstOf, decided}
 use Rattle.lta_spec.specs.Shape.{runLimit}
 use Rattle.lta_spec.specs.Size.{hostTests}
 use Rattle.lta_spec.specs.Place.{Cell, Result, ready, lossCount}
@@ -164,6 +164,6 @@ accepted sh (reading c lag loss) r =
 -- a call with its own shape and length of work memory. "Reading, and every refused call: nothing changes."
 unfoldable pub step : Shape → (words : ℕ) → Call → Run → Step
 step sh words call r =
-    judged (verdict sh r words call)
+    decided (verdict sh r words call)
     (λ why. record { answer = refusal why; out = lentTo call; run = r })
     (accepted sh call r)

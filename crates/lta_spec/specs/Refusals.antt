@@ -52,6 +52,6 @@ firstOf [] = Accepted
 firstOf (x ∷ xs) = cond (x .passes) (firstOf xs) (Refused (x .otherwise))
 
 -- what follows from a verdict: `refused r` where r applies, `done` where no refusal does
-abbrev pub judged : {A : Type 0} → Verdict → (refused : Refusal → A) → (done : A) → A
-judged Accepted refused done = done
-judged (Refused r) refused done = refused r
+abbrev pub decided : {A : Type 0} → Verdict → (refused : Refusal → A) → (done : A) → A
+decided Accepted refused done = done
+decided (Refused r) refused done = refused r

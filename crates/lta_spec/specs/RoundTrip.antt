@@ -41,7 +41,7 @@ emittedTo sh c bank bin mem out =
 
 -- a frame's bytes, read back, are a row and a stamp in numbers
 pub record RowBack (sh : Shape) (c bank bin : ℕ) (b : Stamped Row) (frame : List ℕ) : Type 0 where
-  pub told : readAnswer (sh .lags) frame
+  pub returned : readAnswer (sh .lags) frame
       ≡ fields
       (emittedFields sh c bank bin (b .stamp) (ticksOf (b .members)) (edgeOf (b .members)) (centreOf (b .members)))
   pub lags : lagsRead (sh .lags) frame ≡ rowLags (ticksOf (b .members)) (drop 3 (b .members))

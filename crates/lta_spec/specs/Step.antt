@@ -7,7 +7,7 @@ use mathlib.Core.List.{List, [], _∷_, _++_}
 use lib.Dec.{leb, ltb, eqb}
 use lib.ListN.{length, getD, set, drop}
 use Rattle.lta_spec.specs.Words.{splice}
-use Rattle.lta_spec.specs.Refusals.{Test, test, firstOf, judged}
+use Rattle.lta_spec.specs.Refusals.{Test, test, firstOf, decided}
 use Rattle.lta_spec.specs.Shape.{shapeOk, runLimit, openLimit}
 use Rattle.lta_spec.specs.Size.{memoryWords, hostTests}
 use Rattle.lta_spec.specs.Place.{Stamped, Cell, Result, ready, lossCount}
@@ -63,10 +63,10 @@ sizeAnswer sh = cond (shapeOk sh) (number (memoryWords sh)) (refusal BadShape)
 
 -- setup
 abbrev pub setupAnswer : Shape → (mem : List ℕ) → Answer
-setupAnswer sh mem = judged (firstOf (hostTests sh (length mem))) refusal (number 0)
+setupAnswer sh mem = decided (firstOf (hostTests sh (length mem))) refusal (number 0)
 
 abbrev pub setupLeaves : Shape → (mem : List ℕ) → List ℕ
-setupLeaves sh mem = judged (firstOf (hostTests sh (length mem))) (λ r. mem) ((runL sh) .put (start sh))
+setupLeaves sh mem = decided (firstOf (hostTests sh (length mem))) (λ r. mem) ((runL sh) .put (start sh))
 
 -- what an accepted call answers, and leaves of the frame buffer and of the run
 pub record Done : Type 0 where
@@ -179,7 +179,7 @@ pub record Step : Type 0 where
 -- a call on work memory: "A refusal returns its number alone and changes nothing."
 unfoldable pub step : Shape → Call → (mem : List ℕ) → Step
 step sh call mem =
-    judged (verdict sh mem call)
+    decided (verdict sh mem call)
     (λ why. record { answer = refusal why; out = lentTo call; mem = mem })
     (let d = accepted sh call ((runL sh) .get mem) in
     record { answer = d .answer; out = d .out; mem = (runL sh) .put (d .run) })

@@ -22,12 +22,12 @@ unfoldable pub fromByte : ℕ → Entry
 fromByte b = record { valid = not (eqb (b % 16) 8); sample = nibble (b % 16); phase = b / 16 % 16 }
 
 -- "Before tick 0 everything is invalid"
-abbrev pub silence : Entry
-silence = record { valid = false; sample = negsuc 7; phase = 0 }
+abbrev pub noSample : Entry
+noSample = record { valid = false; sample = negsuc 7; phase = 0 }
 
 -- the entry of d ticks ago; entries stand newest first
 abbrev pub ago : List Entry → (d : ℕ) → Entry
-ago es d = getD es d silence
+ago es d = getD es d noSample
 
 -- "Lag k multiplies X from (k+1) div 2 ticks ago by Y from N/2 - (k div 2) ticks ago", N the lags of the whole
 -- correlator: the memo's X and Y shift registers, both shifted (4.2); `relative-delay` in proofs/TickLaws.antt: "so the

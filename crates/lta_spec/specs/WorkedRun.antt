@@ -1,6 +1,6 @@
 -- A worked run beside P1, in which little is 0: two cells of four lags, S and Z above 0, M = 3, bank 1, a data bin
--- above M, phases that turn, invalid samples, losses 1 to 4. What is told was computed from document 01, not from the
--- definitions here.
+-- above M, phases that turn, invalid samples, losses 1 to 4. What each call returns was computed from document 01,
+-- not from the definitions here.
 use Prim.Native.Nat.{ℕ}
 use mathlib.Core.List.{List, [], _∷_, _++_, map}
 use lib.IntN.{ℤ, pos, negℤ}
@@ -11,8 +11,8 @@ use Rattle.lta_spec.specs.Call.{Call}
 use Rattle.lta_spec.specs.Call.Call.{tick, dump, integrate, emit, reading}
 use Rattle.lta_spec.specs.Answer.{Answer}
 use Rattle.lta_spec.specs.Answer.Answer.{refused, number, entry}
-use Rattle.lta_spec.specs.Demand.{Listed, Told}
-use Rattle.lta_spec.specs.Demand.Listed.{usual}
+use Rattle.lta_spec.specs.Demand.{Listed, Returned}
+use Rattle.lta_spec.specs.Demand.Listed.{onRun}
 use Rattle.lta_spec.specs.declared.Shape.{Shape}
 
 -- C=2, N=4, B=6, M=3, S=20, R=3, Z=1000
@@ -22,19 +22,19 @@ workedShape = record { cells = 2; lags = 4; bins = 6; blocks = 3; start = 20; ra
 -- a call of the run, its answer, and the frame buffer as it leaves it
 pub record CallLine : Type 0 where
   pub call : Call
-  pub told : Told
+  pub returned : Returned
 
 abbrev pub callsOf : List CallLine → List Listed
-callsOf ls = map (λ l. usual (l .call)) ls
+callsOf ls = map (λ l. onRun (l .call)) ls
 
-abbrev pub toldBy : List CallLine → List Told
-toldBy ls = map (λ l. l .told) ls
+abbrev pub returnedBy : List CallLine → List Returned
+returnedBy ls = map (λ l. l .returned) ls
 
-abbrev pub quiet : Answer → Told
-quiet a = record { answer = a; out = [] }
+abbrev pub answerOnly : Answer → Returned
+answerOnly a = record { answer = a; out = [] }
 
 abbrev pub line : Call → Answer → CallLine
-line call a = record { call = call; told = quiet a }
+line call a = record { call = call; returned = answerOnly a }
 
 abbrev pub minus : ℕ → ℤ
 minus n = negℤ (pos n)
@@ -113,6 +113,6 @@ workedRun =
     ∷ line (reading 1 1 3) (sumsRead (minus 24) (pos 48) 1 1 1)
     ∷ line (reading 1 0 4) (sumsRead (pos 118) (minus 21) 5 3 2)
     -- data bin 5 of bank 0 is Free
-    ∷ record { call = emit 1 0 5 lent; told = record { answer = refused 9; out = lent } }
-    ∷ record { call = emit 1 1 5 lent; told = record { answer = number 66; out = workedFrame ++ 9 ∷ [] } }
+    ∷ record { call = emit 1 0 5 lent; returned = record { answer = refused 9; out = lent } }
+    ∷ record { call = emit 1 1 5 lent; returned = record { answer = number 66; out = workedFrame ++ 9 ∷ [] } }
     ∷ []

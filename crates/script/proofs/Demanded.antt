@@ -6,9 +6,9 @@ use Rattle.lta_spec.specs.Shape.{shapeOk, lagCountOk}
 use Rattle.lta_spec.specs.Demand.{AllStand, Demand3}
 use Rattle.lta_spec.specs.Edges.{scriptShape}
 use Rattle.lta_spec.proofs.Demand.{demand3}
-use Rattle.records.specs.Records.{recordsIn}
-use Rattle.records.specs.declared.Record.{Record}
-use Rattle.script.specs.Calls.{listed}
+use Rattle.script_records.specs.declared.Record.{Record}
+use Rattle.script_bytes.specs.Bytes.{recordsIn}
+use Rattle.script.specs.Run.{listed}
 
 all-stand : (rs : List Record) → AllStand (listed rs)
 all-stand [] = tt

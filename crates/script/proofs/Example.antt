@@ -4,8 +4,9 @@ use Prim.Native.Char.{code}
 use mathlib.Core.Path.{_≡_, refl}
 use mathlib.Core.List.{List, [], _∷_, _++_}
 use Rattle.lta_spec.specs.Edges.{script}
-use Rattle.records.specs.Records.{recordSize, markedIn, sizeIn, nextIn, recordsWithin, recordsIn}
-use Rattle.script.specs.Calls.{listed}
+use Rattle.script_records.specs.Records.{recordSize, markedIn}
+use Rattle.script_bytes.specs.Bytes.{sizeIn, nextIn, recordsWithin, recordsIn}
+use Rattle.script.specs.Run.{listed}
 
 -- "TK 02 03, TK 01 0F, TK 08 02 (hexadecimal), DP 0 2 0 0 0, IN 0, EM 0 0 0, IN 0"
 abbrev pub example : List ℕ

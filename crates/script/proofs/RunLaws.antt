@@ -6,12 +6,13 @@ use mathlib.Core.List.{List}
 use native.Mathlib.Omega.{arith}
 use lib.ListN.{length, drop, length-drop}
 use lib.Seq.{drop-drop}
-use Rattle.records.specs.Records.{sizeIn, nextIn, nextAt, isRecord, recordsIn}
-use Rattle.records.specs.declared.Next.{Next}
-use Rattle.records.specs.declared.Next.the-variants as next
-use Rattle.records.proofs.ListLaws.{whole, first, no-more}
+use Rattle.script_bytes.specs.Bytes.{sizeIn, nextIn, nextAt, isRecord, recordsIn, stopsAt}
+use Rattle.script_records.specs.declared.Next.{Next}
+use Rattle.script_records.specs.declared.Next.the-variants as next
+use Rattle.script_bytes.proofs.HeadLaws.{whole}
+use Rattle.script_bytes.proofs.ListLaws.{first, no-more}
 use Rattle.lta_spec.specs.Demand.{engineMem}
-use Rattle.script.specs.Calls.{memAfter, scriptLeaves, stopsAt}
+use Rattle.script.specs.Run.{memAfter, scriptLeaves}
 
 -- the bytes from `at` on are still to be run
 pub record Ran (b mem₀ : List ℕ) (at : ℕ) (mem : List ℕ) : Type 0 where

@@ -1,3 +1,3 @@
--- The calls of a script.
-pub mod Calls
+-- What a script leaves, from memory and block by block.
+pub mod Run
 pub mod Input

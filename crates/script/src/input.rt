@@ -1,42 +1,20 @@
 // A script to its END line: from memory, or block by block from a file descriptor. A record that a block ends in is
 // moved to the front of the block, and the next bytes are read behind it.
 use crate::run_records;
-use answer::refusal_number;
-use lines::end;
-use lta_spec::Refusal;
-use records::Next;
-use records::head;
-use records::next_in;
-use records::tail;
-use records::unknown_mark;
+use script_block::end_number;
+use script_block::fill;
+use script_block::to_front;
+use script_bytes::head;
+use script_bytes::tail;
+use script_bytes::unknown_mark;
+use script_lines::end;
 ghost use mathlib.Core.Path.{_≡_};
-ghost use Prim.Native.Nat.{_-_, _≤_};
-ghost use lib.ListN.{length, take, drop};
-ghost use Rattle.records.specs.Records.{recordsIn};
-ghost use Rattle.script.specs.Calls.{scriptLeaves, endNumber};
-ghost use Rattle.script.specs.Input.{Filled, Left, ReadOn, Ended};
-
-// Reads what has come, behind the bytes that are kept; answers how many bytes there are then.
-fn fill(fd: i32, block: &mut [u8], kept: usize) -> usize
-    requires { ⌜ kept ≤ length (now block) ⌝ }
-    ensures { λ r. ⌜ Filled kept (now (block .entry)) r (now (block .exit)) ⌝ }
-{
-    let got = libc::read(fd, &mut block[kept..]);
-    kept + io::count(got, &block[kept..])
-}
-
-// Moves the bytes from `at` to `e` to the front.
-fn to_front(block: &mut [u8], at: usize, e: usize)
-    requires { ⌜ (at ≤ e) × (e ≤ length (now block)) ⌝ }
-    ensures { λ _. ⌜ take (e - at) (now (block .exit)) ≡ take (e - at) (drop at (now (block .entry))) ⌝ }
-{
-    let n = e - at;
-    let mut i: usize = 0;
-    while i < n {
-        block[i] = block[at + i];
-        i += 1;
-    }
-}
+ghost use Prim.Native.Nat.{_≤_};
+ghost use lib.ListN.{length, take};
+ghost use Rattle.script_bytes.specs.Bytes.{recordsIn};
+ghost use Rattle.script_block.specs.Block.{Left, endNumber};
+ghost use Rattle.script.specs.Run.{scriptLeaves};
+ghost use Rattle.script.specs.Input.{ReadOn, Ended};
 
 // Runs the whole records of the first n bytes and moves what is left to the front; answers how many bytes are left.
 fn run_block(mem: &mut [u64], block: &mut [u8], n: usize) -> usize
@@ -45,8 +23,7 @@ fn run_block(mem: &mut [u64], block: &mut [u8], n: usize) -> usize
     ensures left { λ r. ⌜ Left (take n (now (block .entry))) r (now (block .exit)) ⌝ }
 {
     let at = run_records(&mut *mem, head(&*block, n));
-    to_front(&mut *block, at, n);
-    n - at
+    to_front(&mut *block, at, n)
 }
 
 // Runs all records, until nothing more comes or an unknown mark stands; answers how many bytes are left at the front
@@ -68,16 +45,6 @@ fn run_blocks(fd: i32, mem: &mut [u64], block: &mut [u8]) -> usize
         turns -= 1;
     }
     kept
-}
-
-// The number behind END: 0 where nothing is left, and else 17.
-fn end_number(left: &[u8]) -> u64
-    ensures { λ r. ⌜ r ≡ endNumber (now (left .entry)) ⌝ }
-{
-    let Next::End = next_in(left) else {
-        return refusal_number(Refusal::BadRecord);
-    };
-    0
 }
 
 // A script in memory to its END line; answers the number behind END.

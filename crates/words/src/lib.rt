@@ -4,6 +4,7 @@ ghost use mathlib.Core.Path.{_≡_};
 ghost use Prim.Native.Nat.{_+_, _*_, _<_, _≤_};
 ghost use lib.ListN.{length};
 ghost use Rattle.lta_spec.specs.Words.{part, splice, zeros, every};
+ghost use Rattle.lta_spec.specs.Shape.{runLimit};
 ghost use Rattle.lta_spec.specs.Size.{rowWords};
 ghost use Rattle.lta_spec.specs.Row.{rowOk, entryOk};
 ghost use Rattle.words.specs.Moves.{Folds, folded, atMost};
@@ -55,7 +56,7 @@ pub fn all_le(s: &[u64], at: usize, n: usize, b: u64) -> bool
 
 // Is the row of n lags at `at` within its limits: ticks, counts, and sums of at most 196 a tick?
 pub fn row_ok(s: &[u64], at: usize, n: usize, limit: u64) -> bool
-    requires { ⌜ (at + (3 + 2 * n) ≤ length (now s)) × (limit ≤ 2147483648) × (n ≤ 128) ⌝ }
+    requires { ⌜ (at + rowWords n ≤ length (now s)) × (limit ≤ runLimit) × (n ≤ 128) ⌝ }
     ensures { λ r. ⌜ r ≡ rowOk limit (part at (rowWords n) (now (s .entry))) ⌝ }
 {
     let ticks = s[at];

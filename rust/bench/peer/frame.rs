@@ -84,6 +84,7 @@ fn fields_of(header: [u32; HEADER]) -> Fields {
 }
 
 /// The fields of a frame.
+#[inline(never)]
 pub fn read(lags: u64, bytes: &[u8]) -> Result<Fields, Refusal> {
     check(lags_ok(lags), Refusal::BadShape)?;
     check(bytes.len() as u64 == 34 + 8 * lags, Refusal::WrongLength)?;
@@ -103,6 +104,7 @@ pub fn read(lags: u64, bytes: &[u8]) -> Result<Fields, Refusal> {
 }
 
 /// The frame of the fields and 2N lag numbers into the front of out; answers its length.
+#[inline(never)]
 pub fn write(lags: u64, fields: &Fields, numbers: &[i32], out: &mut [u8]) -> Result<usize, Refusal> {
     check(lags_ok(lags), Refusal::BadShape)?;
     let rules = fields_ok(fields)

@@ -22,7 +22,7 @@ pub fn shape(random: &mut Random) -> Shape {
     with_times(random, shape)
 }
 
-/// A shape of few cells and bins, and mostly of few lags, whose words are forged and sums worked out one by one.
+/// A shape of few cells and bins, and mostly of few lags, whose words are altered and sums worked out one by one.
 pub fn small_shape(random: &mut Random) -> Shape {
     let most = if random.once_in(8) { 64 } else { 5 };
     let shape = Shape {

@@ -96,7 +96,7 @@ fn ten_million_calls() {
     check_outcomes(&tally);
 }
 
-/// Everything has happened that can in a list without limits reached or memory forged.
+/// Everything has happened that can in a list without limits reached or memory altered.
 fn check_outcomes(tally: &Tally) {
     tally.met("tick", &["accepted", "refusal 1", "refusal 2", "refusal 3"]);
     tally.met("dump", &["answer 0", "answer 1", "answer 2", "answer 7"]);

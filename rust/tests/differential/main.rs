@@ -3,12 +3,12 @@
 //! `machine` is document 01's plain machine: sets of tick numbers, and every number worked out from the bytes of the
 //! ticks when it is asked for. `signed` keeps signed sums instead, which is fast enough for long lists; short lists
 //! hold it against the machine. `damage` says when work memory is refused by 11, `layout` which words a run has by
-//! docs/LAYOUT.md, `frame` what the calls on frames give. The tests are in `sizes`, `lists`, `limits`, `forged` and
+//! docs/LAYOUT.md, `frame` what the calls on frames give. The tests are in `sizes`, `lists`, `limits`, `altered` and
 //! `frames`.
+mod altered;
 mod call;
 mod damage;
 mod driver;
-mod forged;
 mod frame;
 mod frames;
 mod generator;

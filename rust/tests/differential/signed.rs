@@ -1,5 +1,5 @@
 //! A run by signed sums: each place has its numbers, which move with it. Any values at all may stand in it, since
-//! `layout` also makes one of forged work memory.
+//! `layout` also makes one of altered work memory.
 use crate::call::{Call, Reply, Shape};
 use crate::frame;
 use crate::rules::{

@@ -6,9 +6,10 @@ use native.Mathlib.Omega.{arith}
 use lib.ListN.{length}
 use denote.Ref.{now}
 use borrow.Author.Needs.{needs}
-use Rattle.lag.specs.Lag.{lagTerms}
-use Rattle.lag.proofs.Loops.{getD-front, take-front}
-use Rattle.lag.proofs.RowLaws.{length-lagTerms}
+use Rattle.lag_registers.proofs.Loops.{getD-front}
+use Rattle.lag_terms.specs.Terms.{lagTerms}
+use Rattle.lag_terms.proofs.TermLaws.{length-lagTerms}
+use Rattle.lag.proofs.Loops.{take-front}
 use Rattle.lag.proofs.add_lags.Statement.{statement}
 use Rattle.lag.proofs.add_lags.Tie as tie
 
@@ -28,7 +29,7 @@ add-terms-requires c κs =
     let a = t .before .before .before .before .before .before .args in
     let ts : List ℕ = lagTerms (now (a .xs)) (now (a .ys)) (a .h) in
     let lt : length ts ≡ 4 * a .h = length-lagTerms (now (a .xs)) (now (a .ys)) (a .h) in (
-      p .2,
+      omega (arith, p .2),
       omega (arith, t .put-lags .kept),
       (λ i h. rw (t .put-lags .ensures, getD-front (now (a .terms)) ts i (omega arith) (omega arith)) (p .3 i h)),
     )

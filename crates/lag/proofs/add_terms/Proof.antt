@@ -8,7 +8,8 @@ use lib.ListN.{length, getD, take, length-set}
 use denote.Ref.{now}
 use Rattle.lta_spec.specs.Words.{part, splice, sums}
 use Rattle.lta_spec.proofs.WordLaws.{splice-nil, part-zero}
-use Rattle.lag.proofs.Loops.{length-added, added-next, getD-ahead}
+use Rattle.lag_registers.proofs.Loops.{getD-ahead}
+use Rattle.lag_counts.proofs.Added.{length-added, added-next}
 use Rattle.lag.proofs.add_terms.Statement.{statement}
 use Rattle.lag.proofs.add_terms.Tie as tie
 

@@ -5,9 +5,8 @@ use mathlib.Core.Bool.{true, false}
 use native.Mathlib.Omega.{arith}
 use denote.Ref.{now}
 use lib.ListN.{length, drop}
-use Rattle.records.specs.Records.{isRecord, nextAt}
-use Rattle.records.proofs.SizeLaws.{wanted}
-use borrow.Author.Needs.{needs}
+use Rattle.script_bytes.specs.Bytes.{isRecord, nextAt}
+use Rattle.script_bytes.proofs.HeadLaws.{wanted}
 use Rattle.script.proofs.RunLaws.{Ran, at-first, moves, ends}
 use Rattle.script.proofs.run_records.Statement.{statement}
 use Rattle.script.proofs.run_records.Tie as tie
@@ -56,10 +55,14 @@ loop-less c =
     omega (arith, (behind c) .inside, c .size-at .ensures, (wanted (drop (loop .loop .at) b)) .least)
 
 loop-again : tie.Need-loop-again Inv-loop μ-loop
-loop-again c = (behind c, search needs)
+loop-again c =
+    let turned = c .before .before .before .before in
+    (behind c, turned .turn .kept .0 ∙ turned .before .before .before .loop .inv .1)
 
 same-length : tie.Need-same-length Inv-loop μ-loop
-same-length c = search needs
+same-length c =
+    let turned = c .before .before .before in
+    turned .turn .kept .0 ∙ turned .before .before .before .loop .inv .1
 
 returns : tie.Need-returns Inv-loop μ-loop
 returns c =

@@ -8,12 +8,11 @@ use native.Mathlib.Omega.{arith}
 use types.Run.{OneOf}
 use denote.Ref.{now}
 use denote.Enum.Declared.{tagOf}
-use Rattle.records.specs.Records.{isRecord}
-use Rattle.records.specs.declared.Next.{Next}
-use Rattle.records.proofs.Next.{the-type}
-use Rattle.records.specs.declared.Next.the-variants as next
-use Rattle.script.specs.Calls.{memAfter}
-use borrow.Author.Needs.{needs}
+use Rattle.script_records.specs.declared.Next.{Next}
+use Rattle.script_records.proofs.Next.{the-type}
+use Rattle.script_records.specs.declared.Next.the-variants as next
+use Rattle.script_bytes.specs.Bytes.{isRecord}
+use Rattle.script.specs.Run.{memAfter}
 use Rattle.script.proofs.turn.Statement.{statement}
 use Rattle.script.proofs.turn.Tie as tie
 
@@ -25,16 +24,16 @@ no-record next.End mem h = (refl, refl)
 no-record next.Cut mem h = (refl, refl)
 
 enum-known-n : tie.Need-enum-known-n
-enum-known-n c = search needs
+enum-known-n c = c .match .keys1
 
 returns : tie.Need-returns
 returns c = let a = c .before .before .args in no-record (a .n) (now (a .mem)) (c .match .keys2)
 
 run-requires : tie.Need-run-requires
-run-requires c κs = search needs
+run-requires c κs = tt
 
 same-length : tie.Need-same-length
-same-length c = search needs
+same-length c = c .before .before .run .kept .0
 
 returns-2 : tie.Need-returns-2
 returns-2 c = let ran = c .before .before in rw (ran .before .before .before .n .given .1) (refl, ran .run .ensures)

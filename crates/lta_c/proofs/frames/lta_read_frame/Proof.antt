@@ -1,7 +1,10 @@
--- The refusal of the call itself, else 10 where there is no room, else the values.
-use mathlib.Core.Path.{sym, ap, refl, _∙_}
-use borrow.Author.Tests.{lt-leb, le-leb}
-use Rattle.lta_spec.specs.Answer.{parsedAs}
+-- The call's own answer, and its values in the slice lent.
+use mathlib.Core.Path.{ap, _∙_}
+use denote.Ref.{now}
+use lib.Dec.{leb}
+use lib.ListN.{length}
+use Rattle.lta_spec.specs.Answer.{Answer}
+use Rattle.host_pack.specs.Boundary.{packed, roomed, stored, headIn}
 use borrow.Author.Needs.{needs}
 use Rattle.lta_c.proofs.frames.lta_read_frame.Statement.{statement}
 use Rattle.lta_c.proofs.frames.lta_read_frame.Tie as tie
@@ -9,56 +12,25 @@ use Rattle.lta_c.proofs.frames.lta_read_frame.Tie as tie
 read-frame-requires : tie.Need-read-frame-requires
 read-frame-requires c κs = search needs
 
-enum-known-r : tie.Need-enum-known-r
-enum-known-r c = search needs
-
-refused-requires : tie.Need-refused-requires
-refused-requires c κs = search needs
-
-enum-known-f : tie.Need-enum-known-f
-enum-known-f c = search needs
-
-refused-requires-2 : tie.Need-refused-requires-2
-refused-requires-2 c κs = search needs
-
-returns : tie.Need-returns
-returns c =
-    let arm = c .before .before .before in
-    rw (
-      ← ap parsedAs (sym (arm .f .given .1)) ∙ arm .before .before .read-frame .ensures,
-      lt-leb 10 _ (c .before .if1 .taken),
-    ) (c .refused2 .ensures, refl)
-
-put-fields-requires : tie.Need-put-fields-requires
-put-fields-requires c κs = search needs
-
-returns-2 : tie.Need-returns-2
-returns-2 c =
-    let arm = c .before .before in
-    rw (← ap parsedAs (sym (arm .r .given .1)) ∙ arm .before .before .read-frame .ensures) (c .refused .ensures, refl)
+store-fields-requires : tie.Need-store-fields-requires
+store-fields-requires c κs = search needs
 
 same-length : tie.Need-same-length
 same-length c = search needs
 
-returns-3 : tie.Need-returns-3
-returns-3 c =
-    let arm = c .before .before .before .before .before .before in
-    rw (
-      ← ap parsedAs (sym (arm .f .given .1)) ∙ arm .before .before .read-frame .ensures,
-      le-leb 10 _ (c .before .before .before .before .if1 .left),
-    ) (refl, c .before .before .put-fields .ensures)
+returns : tie.Need-returns
+returns c =
+    let l = now (c .before .before .before .before .before .before .before .args .head) in
+    let e = c .before .before .store-fields .ensures in
+    let said = c .before .before .before .before .read-frame .ensures in
+    let told : Answer → Answer = λ a. roomed (leb 10 (length l)) a in
+    (e .0 ∙ ap (λ a. packed (told a)) said, e .1 ∙ ap (λ a. stored l 0 (headIn (told a))) said)
 
 pub lta-read-frame-spec : {M : Type 1} → statement M
 lta-read-frame-spec =
     tie.close
     (tie.spec
     read-frame-requires
-    enum-known-r
-    refused-requires
-    enum-known-f
-    refused-requires-2
-    returns
-    put-fields-requires
-    returns-2
+    store-fields-requires
     same-length
-    returns-3)
+    returns)

@@ -3,11 +3,10 @@ use mathlib.Core.Path.{subst, ap, _∙_}
 use denote.Ref.{now}
 use Rattle.lta_spec.specs.Answer.{forecastAs}
 use Rattle.lta_spec.specs.Step.{ForecastOk}
-use Rattle.lta_c.specs.Boundary.{packed}
+use Rattle.host_pack.specs.Boundary.{packed}
 use borrow.Author.Needs.{needs}
 use Rattle.lta_c.proofs.run.lta_forecast.Statement.{statement}
 use Rattle.lta_c.proofs.run.lta_forecast.Tie as tie
-use Rattle.lta.proofs.forecast.Reads as forecast-reads′
 
 shape-of-requires : tie.Need-shape-of-requires
 shape-of-requires c κs = search needs

@@ -1,11 +1,14 @@
--- The refusal of the call itself, else 10 where there is no room, else the values.
-use mathlib.Core.Path.{sym, ap, refl, _∙_}
-use borrow.Author.Tests.{lt-leb, le-leb}
+-- The call's own answer, at the shape that was read, and its values in the slices lent.
+use mathlib.Core.Path.{ap, _∙_}
+use mathlib.Core.Bool.{_&&_}
 use denote.Ref.{now}
-use Rattle.lta_spec.specs.Answer.{Answer, ledgerAs}
+use lib.Dec.{leb}
+use lib.ListN.{length}
+use Rattle.lta_spec.specs.Answer.{Answer}
 use Rattle.lta_spec.specs.Call.Call.{reading}
 use Rattle.lta_spec.specs.Step.{step}
 use Rattle.lta_spec.specs.declared.Shape.{Shape}
+use Rattle.host_pack.specs.Boundary.{packed, roomed, stored, sumsIn, countsIn}
 use borrow.Author.Needs.{needs}
 use Rattle.lta_c.proofs.run.lta_reading.Statement.{statement}
 use Rattle.lta_c.proofs.run.lta_reading.Tie as tie
@@ -16,54 +19,8 @@ shape-of-requires c κs = search needs
 reading-requires : tie.Need-reading-requires
 reading-requires c κs = search needs
 
-enum-known-r : tie.Need-enum-known-r
-enum-known-r c = search needs
-
-refused-requires : tie.Need-refused-requires
-refused-requires c κs = search needs
-
-enum-known-s : tie.Need-enum-known-s
-enum-known-s c = search needs
-
-refused-requires-2 : tie.Need-refused-requires-2
-refused-requires-2 c κs = search needs
-
-returns : tie.Need-returns
-returns c =
-    let arm = c .before .before .before in
-    let called = arm .before .before in
-    let a = called .before .before .before .before .before .args in
-    let at : Shape → Answer = λ s. (step s (reading (a .cell) (a .lag) (a .loss)) (now (a .mem))) .answer in
-    let said = ap ledgerAs (sym (arm .s .given .1))
-    ∙ called .reading .ensures ∙ ap at (called .before .shape-of .ensures) in
-    rw (← said, lt-leb 2 _ (c .before .if1 .taken)) (c .refused2 .ensures, (refl, refl))
-
-refused-requires-3 : tie.Need-refused-requires-3
-refused-requires-3 c κs = search needs
-
-returns-2 : tie.Need-returns-2
-returns-2 c =
-    let arm = c .before .before .before .before in
-    let called = arm .before .before in
-    let a = called .before .before .before .before .before .args in
-    let at : Shape → Answer = λ s. (step s (reading (a .cell) (a .lag) (a .loss)) (now (a .mem))) .answer in
-    let said = ap ledgerAs (sym (arm .s .given .1))
-    ∙ called .reading .ensures ∙ ap at (called .before .shape-of .ensures) in
-    rw (← said, le-leb 2 _ (c .before .before .if1 .left), lt-leb 3 _ (c .before .if2 .taken))
-    (c .refused3 .ensures, (refl, refl))
-
-put-sums-requires : tie.Need-put-sums-requires
-put-sums-requires c κs = search needs
-
-returns-3 : tie.Need-returns-3
-returns-3 c =
-    let arm = c .before .before in
-    let called = arm .before .before in
-    let a = called .before .before .before .before .before .args in
-    let at : Shape → Answer = λ s. (step s (reading (a .cell) (a .lag) (a .loss)) (now (a .mem))) .answer in
-    let said = ap ledgerAs (sym (arm .r .given .1))
-    ∙ called .reading .ensures ∙ ap at (called .before .shape-of .ensures) in
-    rw (← said) (c .refused .ensures, (refl, refl))
+store-sums-requires : tie.Need-store-sums-requires
+store-sums-requires c κs = search needs
 
 same-length : tie.Need-same-length
 same-length c = search needs
@@ -71,17 +28,19 @@ same-length c = search needs
 same-length-2 : tie.Need-same-length-2
 same-length-2 c = search needs
 
-returns-4 : tie.Need-returns-4
-returns-4 c =
-    let arm = c .before .before .before .before .before .before .before .before .before in
-    let called = arm .before .before in
+returns : tie.Need-returns
+returns c =
+    let called = c .before .before .before .before .before .before in
     let a = called .before .before .before .before .before .args in
+    let x = now (a .sums) in
+    let y = now (a .counts) in
+    let e = c .before .before .before .store-sums .ensures in
     let at : Shape → Answer = λ s. (step s (reading (a .cell) (a .lag) (a .loss)) (now (a .mem))) .answer in
-    let said = ap ledgerAs (sym (arm .s .given .1))
-    ∙ called .reading .ensures ∙ ap at (called .before .shape-of .ensures) in
-    let roomy = c .before .before .before .before .before .before in
-    rw (← said, le-leb 2 _ (roomy .before .if1 .left), le-leb 3 _ (roomy .if2 .left))
-    (refl, c .before .before .before .put-sums .ensures)
+    let said = called .reading .ensures ∙ ap at (called .before .shape-of .ensures) in
+    let told : Answer → Answer = λ t. roomed (leb 2 (length x) && leb 3 (length y)) t in (
+      e .0 ∙ ap (λ t. packed (told t)) said,
+      (e .1 .0 ∙ ap (λ t. stored x 0 (sumsIn (told t))) said, e .1 .1 ∙ ap (λ t. stored y 0 (countsIn (told t))) said),
+    )
 
 pub lta-reading-spec : {M : Type 1} → statement M
 lta-reading-spec =
@@ -89,15 +48,7 @@ lta-reading-spec =
     (tie.spec
     shape-of-requires
     reading-requires
-    enum-known-r
-    refused-requires
-    enum-known-s
-    refused-requires-2
-    returns
-    refused-requires-3
-    returns-2
-    put-sums-requires
-    returns-3
+    store-sums-requires
     same-length
     same-length-2
-    returns-4)
+    returns)

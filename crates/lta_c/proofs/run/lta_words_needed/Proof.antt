@@ -19,11 +19,9 @@ pack-requires c κs = search needs
 
 returns : tie.Need-returns
 returns c =
-    let a = c .before .before .before .before .before .args in
     let e = c .before .before .words-needed .ensures in
     let same = c .before .before .before .shape-of .ensures in
-    tells (λ s. sizeAnswer s)
-    (c .pack .ensures) (c .before .needed .ensures) (e) same
+    tells (λ s. sizeAnswer s) (c .pack .ensures) (c .before .needed .ensures) e same
 
 pub lta-words-needed-spec : {M : Type 1} → statement M
 lta-words-needed-spec =

@@ -1,9 +1,8 @@
 -- The invariant is `ReadOn`; the measure is the number of turns that are left.
-use mathlib.Core.Path.{_≡_, refl}
+use mathlib.Core.Path.{_≡_, refl, _∙_}
 use native.Mathlib.Omega.{arith}
 use denote.Ref.{now}
 use lib.ListN.{length}
-use borrow.Author.Needs.{needs}
 use Rattle.script.specs.Input.{ReadOn}
 use Rattle.script.proofs.InputLaws.{nothing-read, none-came, block-read}
 use Rattle.script.proofs.input.run_blocks.Statement.{statement}
@@ -23,10 +22,12 @@ fill-requires : tie.Need-fill-requires Inv-loop μ-loop
 fill-requires c κs = c .before .before .loop .inv .0 .left .inside
 
 same-length : tie.Need-same-length Inv-loop μ-loop
-same-length c = search needs
+same-length c = c .before .before .before .before .before .before .loop .inv .1
 
 same-length-2 : tie.Need-same-length-2 Inv-loop μ-loop
-same-length-2 c = search needs
+same-length-2 c =
+    let fill = c .before .before .before in
+    fill .fill .kept .1 .0 ∙ fill .before .before .before .loop .inv .2
 
 returns : tie.Need-returns Inv-loop μ-loop
 returns c =
@@ -53,11 +54,26 @@ one-more c =
     let e = c .run-block .ensures in
     block-read _ _ _ _ _ _ (loop .loop .inv .0) (fill .fill .ensures) _ _ _ (e .0) (e .1)
 
+-- neither length changes
+mem-size : (c : tie.After-run-block Inv-loop μ-loop)
+    → let start = c .before .before .before .before .before .before .before .before .before .before .before .before in
+    length (c .run-block .last .0) ≡ length (now (start .args .mem))
+mem-size c =
+    let fill = c .before .before .before .before .before .before in
+    c .run-block .kept .0 ∙ fill .before .before .before .loop .inv .1
+
+block-size : (c : tie.After-run-block Inv-loop μ-loop)
+    → let start = c .before .before .before .before .before .before .before .before .before .before .before .before in
+    length (c .run-block .last .1 .0) ≡ length (now (start .args .block))
+block-size c =
+    let fill = c .before .before .before .before .before .before in
+    c .run-block .kept .1 .0 ∙ (fill .fill .kept .1 .0 ∙ fill .before .before .before .loop .inv .2)
+
 same-length-3 : tie.Need-same-length-3 Inv-loop μ-loop
-same-length-3 c = search needs
+same-length-3 c = mem-size (c .before .before .before .before .before .before .before .before)
 
 same-length-4 : tie.Need-same-length-4 Inv-loop μ-loop
-same-length-4 c = search needs
+same-length-4 c = block-size (c .before .before .before .before .before .before .before .before)
 
 returns-2 : tie.Need-returns-2 Inv-loop μ-loop
 returns-2 c = one-more (c .before .before .before .before .before .before .before .before)
@@ -71,13 +87,13 @@ loop-less c = omega arith
 loop-again : tie.Need-loop-again Inv-loop μ-loop
 loop-again c =
     let run = c .before .before .before .before .before .before .before .before in
-    (one-more run, search needs, search needs)
+    (one-more run, mem-size run, block-size run)
 
 same-length-5 : tie.Need-same-length-5 Inv-loop μ-loop
-same-length-5 c = search needs
+same-length-5 c = c .before .loop .inv .1
 
 same-length-6 : tie.Need-same-length-6 Inv-loop μ-loop
-same-length-6 c = search needs
+same-length-6 c = c .before .loop .inv .2
 
 returns-3 : tie.Need-returns-3 Inv-loop μ-loop
 returns-3 c = c .before .loop .inv .0

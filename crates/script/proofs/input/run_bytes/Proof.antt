@@ -2,26 +2,25 @@
 use mathlib.Core.Path.{sym, ap, _∙_}
 use denote.Ref.{now}
 use lib.ListN.{drop}
-use Rattle.records.proofs.ListLaws.{rest}
-use Rattle.script.specs.Calls.{endNumber}
-use borrow.Author.Needs.{needs}
+use Rattle.script_bytes.proofs.ListLaws.{rest}
+use Rattle.script_block.specs.Block.{endNumber}
 use Rattle.script.proofs.input.run_bytes.Statement.{statement}
 use Rattle.script.proofs.input.run_bytes.Tie as tie
 
 run-records-requires : tie.Need-run-records-requires
-run-records-requires c κs = search needs
+run-records-requires c κs = tt
 
 tail-requires : tie.Need-tail-requires
-tail-requires c κs = search needs
+tail-requires c κs = tt
 
 end-number-requires : tie.Need-end-number-requires
-end-number-requires c κs = search needs
+end-number-requires c κs = tt
 
 end-requires : tie.Need-end-requires
-end-requires c κs = search needs
+end-requires c κs = tt
 
 same-length : tie.Need-same-length
-same-length c = search needs
+same-length c = c .before .before .before .before .before .run-records .kept .0
 
 returns : tie.Need-returns
 returns c =

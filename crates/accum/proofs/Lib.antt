@@ -1,3 +1,0 @@
--- The laws of an integration.
-pub mod MoveLaws
-pub mod IntegrateLaws

@@ -1,0 +1,2 @@
+-- What the tests of an accepted dump showed.
+pub mod Shown

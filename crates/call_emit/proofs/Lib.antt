@@ -1,0 +1,2 @@
+-- Laws of an emission.
+pub mod EmitLaws

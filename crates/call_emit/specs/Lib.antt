@@ -1,0 +1,2 @@
+-- What the contracts of the functions under an emission cite.
+pub mod Emission

@@ -1,0 +1,118 @@
+-- `call_integrate::integrate` meets its contract.
+use mathlib.Core.Path.{_≡_, refl, sym, _∙_}
+use mathlib.Core.Bool.{true}
+use denote.Ref.{now}
+use Rattle.lta_spec.specs.Damage.{integrateSound}
+use Rattle.lta_spec.specs.Call.Call.{integrate}
+use Rattle.lta_spec.specs.Engine.{integrateCell}
+use Rattle.lta_spec.specs.Step.{verdict, step, accepted}
+use Rattle.lta_spec.specs.declared.Verdict.the-variants.{Accepted}
+use Rattle.call_run.specs.Runs.{runOf}
+use Rattle.call_run.proofs.RunLaws.{shape-is}
+use Rattle.call_run.proofs.LoanLaws.{part-holds, loan-is, loan-moved}
+use Rattle.call_integrate.proofs.Shown.{IntegratesAt, integrates}
+use borrow.Author.Needs.{needs}
+use Rattle.call_integrate.proofs.integrate.Statement.{statement}
+use Rattle.call_integrate.proofs.integrate.Tie as tie
+
+integrate-verdict-requires : tie.Need-integrate-verdict-requires
+integrate-verdict-requires c κs = search needs
+
+enum-known-r : tie.Need-enum-known-r
+enum-known-r c = search needs
+
+enum-told : tie.Need-enum-told
+enum-told c = search needs
+
+accepting : (c : tie.After-enum-told) → let a = c .before .before .before .before .before .args in
+    Accepted ≡ verdict (a .s) (now (a .mem)) (integrate (a .cell))
+accepting c = sym (c .enum-told .given .1) ∙ c .before .before .integrate-verdict .ensures
+
+shown : (c : tie.After-enum-told) → let a = c .before .before .before .before .before .args in
+    IntegratesAt (a .s) (now (a .mem)) (a .cell)
+shown c =
+    let a = c .before .before .before .before .before .args in
+    integrates (a .s) (now (a .mem)) (a .cell) (accepting c)
+
+cell-start-requires : tie.Need-cell-start-requires
+cell-start-requires c κs = shown (c .before) .cell
+
+cell-words-requires : tie.Need-cell-words-requires
+cell-words-requires c κs =
+    let a = c .before .before .before .before .before .before .before .args in
+    let q = shown (c .before .before) in
+    let h = shape-is (a .s) (now (a .mem)) (q .cell .hosted) in
+    (h .lags, h .bins)
+
+add-e : tie.Need-add-e
+add-e c = search needs
+
+mul-integrate-cell : tie.Need-mul-integrate-cell
+mul-integrate-cell c = search needs
+
+sub-integrate-cell : tie.Need-sub-integrate-cell
+sub-integrate-cell c = search needs
+
+part-integrate-cell-start : tie.Need-part-integrate-cell-start
+part-integrate-cell-start c = search needs
+
+part-integrate-cell-end : tie.Need-part-integrate-cell-end
+part-integrate-cell-end c = search needs
+
+integrate-cell-requires : tie.Need-integrate-cell-requires
+integrate-cell-requires c κs =
+    let a = c .before .before .before .before .before .before .before .before .before .args in
+    let q = shown (c .before .before .before .before) in
+    let r = runOf (a .s) (now (a .mem)) in
+    let at = c .before .before .cell-start .ensures .is in
+    let words = c .before .cell-words .ensures .0 in
+    let l = loan-is (q .cell) at words in (
+      l .fits,
+      record {
+        t = r .t;
+        sound = part-holds l (λ p. integrateSound (a .s .lags) (a .s .bins) (r .t) p ≡ true) (q .sound);
+        occupied = part-holds l (λ p. p .held .occupied ≡ 1) (q .occupied);
+      },
+    )
+
+same-length : tie.Need-same-length
+same-length c = search needs
+
+returns : tie.Need-returns
+unfolding step
+returns c = rw (← sym (c .before .r .given .1) ∙ c .before .before .before .integrate-verdict .ensures) (refl, refl)
+
+same-length-2 : tie.Need-same-length-2
+same-length-2 c = search needs
+
+returns-2 : tie.Need-returns-2
+unfolding accepted
+returns-2 c =
+    let x = c .before .before .before .before .before .before in
+    let a = x .before .before .before .before .before .before .args in
+    let q = shown (x .before) in
+    loan-moved (q .cell)
+    (c .before .before .before .before .before .cell-start .ensures .is)
+    (c .before .before .before .before .cell-words .ensures .0) (integrate (a .cell))
+    (λ p. integrateCell (a .s .lags) (a .s .bins) p) _ _
+    (accepting (x .before)) refl (c .before .before .integrate-cell .ensures)
+
+pub integrate-spec : {M : Type 1} → statement M
+integrate-spec =
+    tie.close
+    (tie.spec
+    integrate-verdict-requires
+    enum-known-r
+    enum-told
+    cell-start-requires
+    cell-words-requires
+    add-e
+    mul-integrate-cell
+    sub-integrate-cell
+    part-integrate-cell-start
+    part-integrate-cell-end
+    integrate-cell-requires
+    same-length
+    returns
+    same-length-2
+    returns-2)

@@ -1,0 +1,70 @@
+-- The words of a cell, lent and given back: what they are, and what `step` makes of work memory through them.
+use mathlib.Core.Path.{_≡_, sym, ap, _∙_, subst}
+use mathlib.Core.List.{List}
+use Prim.Native.Nat.{ℕ, _+_, _-_}
+use lib.ListN.{set, take, drop}
+use borrow.Rule.Slice.PartMut.{putMid}
+use Rattle.lta_spec.specs.Size.{cellWords}
+use Rattle.lta_spec.specs.Place.{Cell, Result}
+use Rattle.lta_spec.specs.Answer.{movedAs}
+use Rattle.lta_spec.specs.declared.Moved.{Moved}
+use Rattle.lta_spec.specs.Call.{Call}
+use Rattle.lta_spec.specs.Engine.{Row, Unit}
+use Rattle.lta_spec.specs.Memory.{unitL, runL}
+use Rattle.lta_spec.specs.Step as S
+use Rattle.lta_spec.specs.declared.Shape.{Shape}
+use Rattle.lta_spec.specs.declared.Verdict.the-variants.{Accepted}
+use Rattle.lta_spec.proofs.WordLaws.{lent, returned}
+use Rattle.lta_spec.proofs.MemoryLaws.{unit-law, unit-width, run-law}
+use Rattle.cell_layout.specs.Lays.{Lays}
+use Rattle.cell_layout.specs.Offsets.{cellAt}
+use Rattle.cell_layout.specs.Cells.{unitOf, placesOf, withPlaces}
+use Rattle.cell_layout.specs.Moves.{Leaves}
+use Rattle.cell_layout.proofs.LaysLaws.{lays-put, lays-back, lays-to}
+use Rattle.cell_layout.proofs.Fields.{cell}
+use Rattle.call_run.specs.Runs.{Celled, runOf, CellPart}
+use Rattle.call_run.proofs.RunLaws.{whole, starts, cell-part}
+use Rattle.call_run.proofs.StepLaws.{done}
+
+-- what holds of a cell's places holds of its words
+pub part-holds : {s : Shape} {mem : List ℕ} {c : ℕ} {l : List ℕ} → CellPart s mem c l → (P : Cell Row → Type 0)
+    → P (S.cellAt s c (runOf s mem)) → P (placesOf (s .lags) (s .bins) l)
+part-holds k P p = subst P (ap (λ u. u .cell) (sym (k .unit))) p
+
+-- the words of cell c as code lends them: K words from `at`
+module _ {s : Shape} {mem : List ℕ} {c : ℕ} (q : Celled s mem c) {at K : ℕ}
+    (e : at ≡ cellAt (s .lags) (s .bins) c) (w : K ≡ cellWords (s .lags) (s .bins)) where
+  abbrev pub loan : List ℕ
+  loan = take (at + K - at) (drop at mem)
+
+  pub loan-is : CellPart s mem c loan
+  loan-is =
+      rw (e, w, lent mem (cellAt (s .lags) (s .bins) c) (cellWords (s .lags) (s .bins))) (cell-part q)
+
+  -- they come back as cell u
+  pub loan-unit : (vs : List ℕ) (u : Unit) → Lays (unitL (s .lags) (s .bins)) vs u
+      → Lays (runL s) (putMid at (at + K - at) mem vs)
+      (record { t = (runOf s mem) .t; units = set ((runOf s mem) .units) c u })
+  loan-unit vs u v =
+      let size = v .size ∙ unit-width (s .lags) (s .bins) ∙ sym w in
+      let back = returned mem at K vs (rw (e, w) (starts q .inside)) size in
+      rw (back, e) (lays-back (unit-law (s .lags) (s .bins)) (cell s c (q .there)) (whole s mem (q .hosted)) vs u v)
+
+  -- they come back with other places
+  pub loan-back : (places : Cell Row) (vs : List ℕ)
+      → Lays (unitL (s .lags) (s .bins)) vs (withPlaces (unitOf (s .lags) (s .bins) loan) places)
+      → putMid at (at + K - at) mem vs ≡ (runL s) .put (S.withCell s c places (runOf s mem))
+  unfolding S.withCell
+  loan-back places vs v =
+      lays-put (run-law s) (loan-unit vs _ (lays-to v (ap (λ u. withPlaces u places) (loan-is .unit))))
+
+  -- a dump or an integration of that cell
+  pub loan-moved : (call : Call) (f : Cell Row → Result Row) (m : Moved) (vs : List ℕ)
+      → Accepted ≡ S.verdict s mem call
+      → S.accepted s call (runOf s mem) ≡ S.moved s c (f (S.cellAt s c (runOf s mem))) (runOf s mem)
+      → Leaves (s .lags) (s .bins) (unitOf (s .lags) (s .bins) loan) (f (placesOf (s .lags) (s .bins) loan)) m vs
+      → (movedAs m ≡ (S.step s call mem) .answer)
+      × (putMid at (at + K - at) mem vs ≡ (S.step s call mem) .mem)
+  loan-moved call f m vs ok acc l =
+      let p : placesOf (s .lags) (s .bins) loan ≡ S.cellAt s c (runOf s mem) = ap (λ u. u .cell) (loan-is .unit) in
+      rw (done s mem call ok, acc, ← p) (l .answer, loan-back _ vs (l .words))

@@ -1,0 +1,3 @@
+-- Laws of a tick.
+pub mod CellsLaws
+pub mod Shown

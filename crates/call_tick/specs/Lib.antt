@@ -1,0 +1,2 @@
+-- What the contracts of the functions under a tick cite.
+pub mod Cells

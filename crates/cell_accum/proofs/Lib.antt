@@ -1,0 +1,2 @@
+-- The laws of an integration.
+pub mod IntegrateLaws

@@ -1,0 +1,2 @@
+-- The laws of the moves of an integration.
+pub mod MoveLaws

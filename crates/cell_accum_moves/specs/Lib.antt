@@ -1,0 +1,2 @@
+-- What the contracts of the moves of an integration cite.
+pub mod HeldMoves

@@ -1,0 +1,2 @@
+-- The laws of the tests on Held.
+pub mod HeldTests

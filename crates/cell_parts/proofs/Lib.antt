@@ -1,0 +1,2 @@
+-- The laws of a cell's tests.
+pub mod PartLaws

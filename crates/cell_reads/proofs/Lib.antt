@@ -1,0 +1,2 @@
+-- The laws of a cell's readings.
+pub mod ReadLaws

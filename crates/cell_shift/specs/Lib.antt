@@ -1,0 +1,2 @@
+-- What the contract of a cell's registers cites.
+pub mod Shifts

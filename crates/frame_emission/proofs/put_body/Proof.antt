@@ -1,0 +1,69 @@
+-- Header words and the words of the sums are put one behind the other, then the sum of what stands there.
+use mathlib.Core.Path.{_∙_}
+use native.Mathlib.Omega.{arith}
+use lib.ListN.{length}
+use denote.Ref.{now}
+use Rattle.lta_spec.specs.Row.{rowLags}
+use Rattle.lta_spec.specs.Frame.{lagWords}
+use Rattle.lta_spec.proofs.ByteLaws.{lags-below}
+use Rattle.lta_spec.proofs.RoundTrips.{valid}
+use Rattle.frame_codec.proofs.FrameStores.{body-put}
+use Rattle.frame_emission.proofs.Laws.{length-unbiased}
+use borrow.Author.Needs.{needs}
+use Rattle.frame_emission.proofs.put_body.Statement.{statement}
+use Rattle.frame_emission.proofs.put_body.Tie as tie
+
+header-words-requires : tie.Need-header-words-requires
+header-words-requires c κs = search needs
+
+slice-aggregate-put-words : tie.Need-slice-aggregate-put-words
+slice-aggregate-put-words c = search needs
+
+put-words-requires : tie.Need-put-words-requires
+put-words-requires c κs = search needs
+
+put-sums-requires : tie.Need-put-sums-requires
+put-sums-requires c κs =
+    let s = c .before .before .before .before .before .before .before .before .before in
+    (omega (arith, valid (s .args .f) (s .pre .0)), search needs)
+
+add-k : tie.Need-add-k
+add-k c = search needs
+
+sum-words-requires : tie.Need-sum-words-requires
+sum-words-requires c κs = search needs
+
+put-word-requires : tie.Need-put-word-requires
+put-word-requires c κs = search needs
+
+same-length : tie.Need-same-length
+same-length c = search needs
+
+returns : tie.Need-returns
+returns c =
+    let p = c .before .before in
+    let q = p .before .before in
+    let r = q .before .before .before .before in
+    let v = r .before .before .before .before in
+    let h = v .before .before .before in
+    let a = h .before .before .before .args in
+    let xs = now (a .sums) in
+    let zs = rowLags (a .f .ticks) xs in
+    p .put-word .ensures
+    ∙ body-put (now (a .body)) (a .f) (lagWords zs) (length xs) (h .before .before .before .pre .0) (lags-below zs)
+    (length-unbiased (a .f .ticks) xs) (omega arith)
+    (rw (v .put-words .ensures, h .header-words .ensures) at (r .put-sums .ensures)) (q .sum-words .ensures)
+
+pub put-body-spec : {M : Type 1} → statement M
+put-body-spec =
+    tie.close
+    (tie.spec
+    header-words-requires
+    slice-aggregate-put-words
+    put-words-requires
+    put-sums-requires
+    add-k
+    sum-words-requires
+    put-word-requires
+    same-length
+    returns)

@@ -1,0 +1,2 @@
+-- Laws of the fields of a frame.
+pub mod Laws

@@ -1,0 +1,2 @@
+-- Laws of the stores of a word.
+pub mod Laws

@@ -1,0 +1,2 @@
+-- What crosses the boundary to a host.
+pub mod Boundary

@@ -1,0 +1,3 @@
+-- Laws of what the loops over registers write, and of decoded entries.
+pub mod Loops
+pub mod Decoding

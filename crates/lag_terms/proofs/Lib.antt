@@ -1,0 +1,2 @@
+-- Laws of the terms that the lag loop writes.
+pub mod TermLaws

@@ -1,0 +1,2 @@
+-- What the lag loop is proved against.
+pub mod Terms

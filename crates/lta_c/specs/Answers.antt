@@ -1,0 +1,32 @@
+-- What the calls for hosts answer: the answers of document 01, where they want room in a slice that was lent.
+use Prim.Native.Nat.{ℕ}
+use mathlib.Core.Path.{_≡_}
+use mathlib.Core.Bool.{_&&_}
+use mathlib.Core.List.{List}
+use lib.Dec.{leb}
+use lib.IntN.{ℤ}
+use lib.Ieee.{Float}
+use lib.ListN.{length}
+use Rattle.lta_spec.specs.Answer.{Answer}
+use Rattle.lta_spec.specs.Call.Call.{reading}
+use Rattle.lta_spec.specs.Step.{step}
+use Rattle.lta_spec.specs.FrameCalls.{readAnswer, normalAnswer}
+use Rattle.host_pack.specs.Boundary.{shapeOf, packed, roomed}
+
+-- an answer of which a definition says no more than P, as one number
+pub record Packs (P : Answer → Type 0) (r : ℕ) : Type 0 where
+  pub answer : Answer
+  pub holds : P answer
+  pub one : r ≡ packed answer
+
+-- a reading into room for two sums and three counts
+abbrev pub readingTold : (shape mem : List ℕ) (cell lag loss : ℕ) (sums : List ℤ) (counts : List ℕ) → Answer
+readingTold shape mem cell lag loss sums counts =
+    roomed (leb 2 (length sums) && leb 3 (length counts)) ((step (shapeOf shape) (reading cell lag loss) mem) .answer)
+
+-- a frame read into room for ten fields, and a lag normalised into room for two parts
+abbrev pub readTold : (lags : ℕ) (bytes head : List ℕ) → Answer
+readTold lags bytes head = roomed (leb 10 (length head)) (readAnswer lags bytes)
+
+abbrev pub normalTold : (lags : ℕ) (bytes : List ℕ) (lag : ℕ) (pair : List Float) → Answer
+normalTold lags bytes lag pair = roomed (leb 2 (length pair)) (normalAnswer lags bytes lag)

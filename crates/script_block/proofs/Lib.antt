@@ -1,0 +1,2 @@
+-- Laws of a block.
+pub mod BlockLaws

@@ -1,0 +1,2 @@
+-- What each kind of letters says.
+pub mod KindLaws

@@ -1,0 +1,2 @@
+-- The records of a script: letters, sizes and fields.
+pub mod Records

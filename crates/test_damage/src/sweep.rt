@@ -1,0 +1,141 @@
+// "Whoever writes in work memory": every word of memory in turn gets every value at or next to a limit, in every
+// variant that matters to a call. Refusal 11 must be told where a part that the call tests breaks a clause, and only
+// there; a bad part that the call does not test stays as it is.
+use test_lib_calls::row::held_to;
+use test_lib_memory::base::NOW;
+use test_lib_memory::base::build;
+use test_lib_memory::base::shape;
+use test_lib_memory::base::variant;
+use test_lib_memory::base::word;
+use test_lib_memory::due::says;
+use test_lib_rules::call::Call;
+use test_lib_rules::call::DUMP;
+use test_lib_rules::call::EMIT;
+use test_lib_rules::call::FORECAST;
+use test_lib_rules::call::INTEGRATE;
+use test_lib_rules::call::READING;
+use test_lib_rules::call::TICK;
+use test_lib_rules::call::needed;
+use test_lib_tools::report::Tally;
+use test_lib_tools::words::get;
+use test_lib_tools::words::less;
+use test_lib_tools::words::times;
+
+// Values of a word.
+const VALUES: u64 = 31;
+
+// What a call would take past 2,147,483,648 ticks: 1 of a tick, 3 of Open, 5 of Held, 7 of a Filling bin, or 524,288.
+fn near_long(j: u64) -> u64 {
+    match j {
+        0 => 2146959360,
+        1 => 2146959361,
+        _ => 2147483639 + j % 16,
+    }
+}
+
+// Value j of a word that is u, in a row of so many ticks.
+fn value(j: u64, u: u64, ticks: u64) -> u64 {
+    match j {
+        0..=3 => j,
+        4 => 255,
+        5 => 256,
+        6 => ticks,
+        7 => ticks % 4294967296 + 1,
+        8 => times(ticks, 196),
+        9 => times(ticks, 196) % 4294967296 + 1,
+        10 => NOW,
+        11 => NOW + 1,
+        12 => 524288,
+        13 => 524289,
+        14 => 16777210,
+        15 => 16777211,
+        16 => 16777215,
+        17 => 16777216,
+        18..=28 => near_long(less(j, 18)),
+        29 => 18446744073709551615,
+        _ => u,
+    }
+}
+
+// The calls: a tick; a dump that keeps, 100 and 111; an integration, an emission, a reading, a forecast.
+fn kind(g: u64) -> u64 {
+    match g {
+        0 => TICK,
+        1 | 2 | 3 => DUMP,
+        4 => INTEGRATE,
+        5 => EMIT,
+        6 => READING,
+        _ => FORECAST,
+    }
+}
+
+// Tick: two bytes; dump: command and bank; emission: the bin of Held's label; reading: lag 1 of loss 4.
+fn first(g: u64, i: u64) -> u64 {
+    match g {
+        0 => 0x35,
+        1 => i / 4 % 3,
+        2 => 4,
+        3 => 7,
+        _ => 1,
+    }
+}
+
+fn second(g: u64) -> u64 {
+    match g {
+        0 => 0x2b,
+        6 => 4,
+        _ => 0,
+    }
+}
+
+// Call g in its variant i, on the last cell. A dump names data bin 1.
+fn call(n: u64, g: u64, i: u64) -> Call {
+    Call {
+        kind: kind(g),
+        words: needed(shape(n)),
+        bytes: if g == 0 { 4 } else { 34 + 8 * (n % 256) },
+        cell: 1,
+        a: first(g, i),
+        b: second(g),
+        phase: 1,
+        block: 0,
+    }
+}
+
+// How many variants matter to call g, and which they are.
+const VARIANTS: [u64; 8] = [2, 12, 4, 4, 18, 3, 1, 2];
+
+fn variant_of(g: u64, i: u64) -> u64 {
+    match g {
+        1 | 2 | 3 => variant(i % 2, 0, 0, i / 2),
+        4 => i,
+        5 => variant(0, 0, i, 0),
+        _ => variant(0, 0, 0, i),
+    }
+}
+
+// How many rows call g has.
+pub fn size(g: u64, n: u64) -> u64 {
+    times(times(get(&VARIANTS, g), VALUES), needed(shape(n)))
+}
+
+// A row: value j of word w, in variant i of call g.
+fn with_value(t: Tally, n: u64, g: u64, i: u64, w: u64, j: u64) -> Tally {
+    let v = variant_of(g, i);
+    let x = value(j, word(n, v, w, false), word(n, v, w, true));
+    let k = call(n, g, i);
+    let mut old = [0u64; 320];
+    build(&mut old, n, v, k.words, w, x);
+    let mut mem = old;
+    let due = says(shape(n), &old, k);
+    held_to(t, shape(n), &mut mem, &old, k, due)
+}
+
+// Row r of call g.
+pub fn row(t: Tally, n: u64, g: u64, r: u64) -> Tally {
+    let words = needed(shape(n));
+    if words == 0 {
+        return t;
+    }
+    with_value(t, n, g, r / VALUES / words, r / VALUES % words, r % VALUES)
+}

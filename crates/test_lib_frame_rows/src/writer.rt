@@ -1,0 +1,139 @@
+// The writer from fields: every field at its limits and past them, the lag numbers, and the buffer.
+use crate::sweep::whole;
+use test_lib_frames::ask::expect_read;
+use test_lib_frames::ask::expect_write;
+use test_lib_frames::build::BASE;
+use test_lib_frames::build::build;
+use test_lib_frames::build::build_with;
+use test_lib_frames::build::near;
+use test_lib_tools::bytes::length;
+use test_lib_tools::bytes::twice;
+use test_lib_tools::report::Tally;
+use test_lib_tools::report::pick;
+use test_lib_tools::words::get;
+use test_lib_tools::words::word_of;
+
+// A row: the frame of a code written from the first `count` of its numbers into `room` bytes. Where `fits`, the frame
+// is due, and otherwise the number.
+fn written(
+    t: Tally,
+    n: u64,
+    code: u64,
+    count: usize,
+    room: usize,
+    fits: bool,
+    number: u64,
+) -> Tally {
+    let mut s = [0u8; 1200];
+    build(&mut s, n, code);
+    expect_write(
+        t,
+        n,
+        code,
+        &s,
+        count,
+        room,
+        pick(fits, length(n) as u64, number),
+    )
+}
+
+// "not 2N lag numbers": 2N; one and many more; none, two, one less and four less.
+pub fn count(t: Tally, n: u64, i: u64) -> Tally {
+    written(t, n, BASE, near(twice(n), i), length(n), i == 0, 16)
+}
+
+// 10, "buffer shorter than a frame": just enough, a byte and many more, which are kept; no room, a mark's, a byte and
+// a word too few.
+pub fn room(t: Tally, n: u64, i: u64) -> Tally {
+    written(t, n, BASE, twice(n), near(length(n), i), i < 3, 10)
+}
+
+// "a lag beyond 98 × ticks": 98000 and -98000 are the limits of the base frame; 98001, -98001, -2^31 and 2^31 - 1.
+const LAGS: [u64; 6] = [98000, 4294869296, 98001, 4294869295, 0x80000000, 0x7fffffff];
+
+// Row i: number i mod 6 of these as lag word i div 6, read and written.
+pub fn lag(t: Tally, n: u64, i: u64) -> Tally {
+    let mut s = [0u8; 1200];
+    let fits = i % 6 < 2;
+    let w = word_of(get(&LAGS, i % 6));
+    build_with(&mut s, n, BASE, 7 + (i / 6 % 512) as usize, w, 0);
+    let len = length(n);
+    let a = expect_read(t, n, &s, len, pick(fits, 0, 16));
+    expect_write(a, n, BASE, &s, twice(n), len, pick(fits, len as u64, 16))
+}
+
+// Codes of frames: the field's number, in the order of Fields, and its value. First 20 that are written, then 34 that
+// 16 is due to.
+const FIELDS: [u64; 54] = [
+    // kind, cell, block
+    0x0_0000_0002,
+    0x1_0000_0000,
+    0x1_0000_000f,
+    0x2_0000_0000,
+    0x2_0000_00ff,
+    // data bin to 999, bank
+    0x3_0000_0000,
+    0x3_0000_03e7,
+    0x4_0000_0000,
+    0x4_0000_0001,
+    // ticks to 16,777,215, and as many as the centre count; counts to the ticks
+    0x5_00ff_ffff,
+    0x5_0000_0384,
+    0x6_0000_0000,
+    0x6_0000_03e8,
+    0x7_0000_0000,
+    0x7_0000_03e8,
+    // W5 takes any 32 bits; W6 to 255,999,999
+    0x8_0000_0000,
+    0x8_8000_0000,
+    0x8_ffff_ffff,
+    0x9_0000_0000,
+    0x9_0f42_3fff,
+    // "bits 0-2 = 2", also where only bits too high for the field differ
+    0x0_0000_0000,
+    0x0_0000_0001,
+    0x0_0000_0003,
+    0x0_0000_0007,
+    0x0_0000_000a,
+    0x0_8000_0002,
+    // "a field too wide for its bits": cell, block
+    0x1_0000_0010,
+    0x1_0020_0000,
+    0x1_ffff_ffff,
+    0x2_0000_0100,
+    0x2_0100_0000,
+    0x2_ffff_ffff,
+    // "data bin above 999", and past its 15 bits; bank
+    0x3_0000_03e8,
+    0x3_0000_7fff,
+    0x3_0000_8000,
+    0x3_0001_0000,
+    0x3_ffff_ffff,
+    0x4_0000_0002,
+    0x4_ffff_ffff,
+    // "ticks above 16,777,215"; ticks below a count
+    0x5_0100_0000,
+    0x5_ffff_ffff,
+    0x5_0000_0383,
+    0x5_0000_0000,
+    // "a count above ticks"
+    0x6_0000_03e9,
+    0x6_0100_0000,
+    0x6_ffff_ffff,
+    0x7_0000_03e9,
+    0x7_0100_0000,
+    0x7_ffff_ffff,
+    // "W6 above 255,999,999", and past its 29 bits
+    0x9_0f42_4000,
+    0x9_1000_0000,
+    0x9_2000_0000,
+    0x9_8000_0000,
+    0x9_ffff_ffff,
+];
+
+// Row i of the table: the base frame with another value in one field, written; where no number is due, also read.
+pub fn field(t: Tally, n: u64, i: u64) -> Tally {
+    let code = get(&FIELDS, i);
+    let a = written(t, n, code, twice(n), length(n), i < 20, 16);
+    if i < 20 { whole(a, n, code, 0) } else { a }
+}

@@ -1,0 +1,213 @@
+// The calls of a list: call i of a run depends on the seed, on i and on the shape alone.
+use lta_spec::Shape;
+use test_lib_machine::machine::shape;
+use test_lib_machine::sets::bins;
+use test_lib_machine::sets::cells;
+use test_lib_machine::sets::lags;
+use test_lib_machine::sets::seed;
+use test_lib_machine::sets::shape_value;
+use test_lib_rules::call::Call;
+use test_lib_rules::call::DUMP;
+use test_lib_rules::call::EMIT;
+use test_lib_rules::call::TICK;
+use test_lib_rules::call::needed;
+use test_lib_rules::call::shaped;
+use test_lib_tools::random::below;
+use test_lib_tools::words::get;
+use test_lib_tools::words::less;
+
+// The first steps of a list, without refusals: ticks, so that a cell is held off.
+pub fn first_ticks(m: &[u64]) -> u64 {
+    get(m, 9) % 4294967296
+}
+
+// Draw j of step i.
+fn random(m: &[u64], i: u64, j: u64, end: u64) -> u64 {
+    below(!seed(m), 64 * (i % 4294967296) + j % 64, end)
+}
+
+// A number that is never below the limit.
+fn past(which: u64, limit: u64) -> u64 {
+    match which {
+        0 | 1 => limit,
+        2 => 4294967295,
+        3 => 4294967296,
+        4 => 9223372036854775808,
+        _ => 18446744073709551615,
+    }
+}
+
+// Mostly a number below the limit.
+fn argument(m: &[u64], i: u64, j: u64, limit: u64) -> u64 {
+    if random(m, i, j, 40) == 0 {
+        past(random(m, i, j % 64 + 1, 6), limit)
+    } else {
+        random(m, i, j % 64 + 2, limit)
+    }
+}
+
+// Digit i of a text.
+fn digit(text: &[u8], i: u64) -> u64 {
+    (test_lib_tools::bytes::get(text, (i % 64) as usize) % 16) as u64
+}
+
+// Half of the calls are ticks.
+fn kind(m: &[u64], i: u64) -> u64 {
+    digit(
+        b"0000000000000000000011111111222222333445",
+        random(m, i, 0, 40),
+    )
+}
+
+// A length to lend: now and then none, one less, one more or another than is right.
+fn near(which: u64, right: u64, other: u64) -> u64 {
+    match which {
+        0 => 0,
+        1 => less(right, 1),
+        2 => right % 65536 + 1,
+        3 => other,
+        _ => right,
+    }
+}
+
+// Words of memory.
+fn words(m: &[u64], i: u64) -> u64 {
+    near(random(m, i, 4, 160), needed(shape(m)) % 65536, 43700)
+}
+
+// The bytes of a tick.
+fn samples(m: &[u64], i: u64) -> u64 {
+    let right = 2 * (cells(m) % 32);
+    near(random(m, i, 5, 120), right, right + 2)
+}
+
+// The buffer of an emission: now and then a long one.
+fn room(m: &[u64], i: u64) -> u64 {
+    let x = random(m, i, 5, 16);
+    near(if x == 4 { 3 } else { x }, 34 + 8 * (lags(m) % 256), 1200)
+}
+
+fn bytes(m: &[u64], i: u64, kind: u64) -> u64 {
+    if kind == TICK {
+        samples(m, i)
+    } else {
+        room(m, i)
+    }
+}
+
+// Every command from 000 to 1000b, those that end an integration more often, and now and then a far one.
+fn command(m: &[u64], i: u64) -> u64 {
+    let x = random(m, i, 8, 18);
+    if x == 17 {
+        past(random(m, i, 9, 6), 9)
+    } else {
+        digit(b"01234567800011122", x)
+    }
+}
+
+// A phase bin, mostly one that fits.
+fn phase(m: &[u64], i: u64) -> u64 {
+    let blocks = shape_value(m, 4);
+    let fit = if blocks == 0 { 0 } else { bins(m) / blocks };
+    argument(m, i, 16, fit)
+}
+
+// A Y block: in the range, and now and then the one before it or one behind it.
+fn block(m: &[u64], i: u64) -> u64 {
+    let start = shape_value(m, 5) % 512;
+    match random(m, i, 20, 40) {
+        0 => less(start, 1),
+        1 => past(random(m, i, 21, 6), start + shape_value(m, 4) % 512),
+        _ => start + random(m, i, 22, shape_value(m, 4)) % 512,
+    }
+}
+
+// A dump's command, an emission's bank, a reading's lag.
+fn first_argument(m: &[u64], i: u64, kind: u64) -> u64 {
+    match kind {
+        DUMP => command(m, i),
+        EMIT => argument(m, i, 8, 2),
+        _ => argument(m, i, 8, lags(m)),
+    }
+}
+
+// A dump's bank, an emission's data bin, a reading's loss (0 is none).
+fn second_argument(m: &[u64], i: u64, kind: u64) -> u64 {
+    match kind {
+        DUMP => argument(m, i, 12, 2),
+        EMIT => argument(m, i, 12, bins(m)),
+        _ => argument(m, i, 12, 7),
+    }
+}
+
+// A call of this kind.
+fn of_kind(m: &[u64], i: u64, kind: u64) -> Call {
+    Call {
+        kind: kind,
+        words: words(m, i),
+        bytes: bytes(m, i, kind),
+        cell: argument(m, i, 24, cells(m)),
+        a: first_argument(m, i, kind),
+        b: second_argument(m, i, kind),
+        phase: phase(m, i),
+        block: block(m, i),
+    }
+}
+
+// A tick, and every 65,536 steps an ordered loss of the last cell's Open.
+fn tick_or_clear(m: &[u64], i: u64) -> Call {
+    let count = cells(m) % 32;
+    Call {
+        kind: if i % 65536 == 65535 { DUMP } else { TICK },
+        words: needed(shape(m)),
+        bytes: 2 * count,
+        cell: less(count, 1),
+        a: 4,
+        b: 0,
+        phase: 0,
+        block: shape_value(m, 5),
+    }
+}
+
+// Call i.
+pub fn call(m: &[u64], i: u64) -> Call {
+    if i < first_ticks(m) {
+        tick_or_clear(m, i)
+    } else {
+        of_kind(m, i, kind(m, i))
+    }
+}
+
+// The limits that a shape value must not pass, from C to Z; S + M is another.
+const MOST: [u64; 7] = [16, 128, 1000, 256, 256, 256000000, 2147483647];
+
+// A value j of a shape that is out of its limits: 0 where that is, or one past the greatest.
+fn bad_value(x: u64, j: u64) -> u64 {
+    let over = get(&MOST, less(j, 1)) % 4294967296 + 1;
+    if x > 1 {
+        return past(less(x, 2), over);
+    }
+    if (j == 5) | (j == 7) { over } else { 0 }
+}
+
+// Value j of the shape that is lent: mostly the run's.
+fn lent_value(m: &[u64], i: u64, j: u64) -> u64 {
+    if (i >= first_ticks(m)) & (random(m, i, 32, 400) == j) {
+        bad_value(random(m, i, 33, 8), j)
+    } else {
+        shape_value(m, j)
+    }
+}
+
+// The shape that is lent to call i.
+pub fn lent_shape(m: &[u64], i: u64) -> Shape {
+    shaped(
+        lent_value(m, i, 1),
+        lent_value(m, i, 2),
+        lent_value(m, i, 3),
+        lent_value(m, i, 4),
+        lent_value(m, i, 5),
+        lent_value(m, i, 6),
+        lent_value(m, i, 7),
+    )
+}

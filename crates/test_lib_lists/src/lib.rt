@@ -1,0 +1,2 @@
+// The calls of a list.
+pub mod draw;

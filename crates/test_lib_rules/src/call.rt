@@ -1,0 +1,134 @@
+// A call with its arguments, and what document 01 says of them: the refusals that come before any look at the run.
+use lta_spec::Shape;
+use std::num::wrapping_add_u64;
+use test_lib_tools::words::less;
+use test_lib_tools::words::times;
+
+// An answer stands as 100 + its number, a refusal as its own.
+pub const ACCEPTED: u64 = 100;
+
+// The kinds of calls.
+pub const TICK: u64 = 0;
+
+pub const DUMP: u64 = 1;
+
+pub const INTEGRATE: u64 = 2;
+
+pub const EMIT: u64 = 3;
+
+pub const READING: u64 = 4;
+
+pub const FORECAST: u64 = 5;
+
+pub struct Call {
+    pub kind: u64,
+    // Words of work memory lent.
+    pub words: u64,
+    // Bytes lent: a tick's samples, or the buffer of an emission.
+    pub bytes: u64,
+    pub cell: u64,
+    // A dump's command, an emission's bank, a reading's lag.
+    pub a: u64,
+    // A dump's bank, an emission's data bin, a reading's loss.
+    pub b: u64,
+    // A dump's phase bin and Y block.
+    pub phase: u64,
+    pub block: u64,
+}
+
+// A shape, by document 01's letters.
+pub fn shaped(c: u64, n: u64, b: u64, m: u64, s: u64, r: u64, z: u64) -> Shape {
+    Shape {
+        cells: c,
+        lags: n,
+        bins: b,
+        blocks: m,
+        start: s,
+        rate: r,
+        second: z,
+    }
+}
+
+// "a shape value out of its limits", by "Shape of a run".
+pub fn shape_wrong(s: Shape) -> bool {
+    let cells = (s.cells < 1) | (s.cells > 16);
+    let lags = (s.lags < 2) | (s.lags > 128) | (s.lags % 2 != 0);
+    let bins = (s.bins < 1) | (s.bins > 1000);
+    let blocks = (s.blocks < 1) | (s.blocks > 256) | (s.start > 256 - s.blocks % 257);
+    let clock = (s.rate < 1) | (s.rate > 256000000) | (s.second > 2147483647);
+    cells | lags | bins | blocks | clock
+}
+
+// The words of a cell and of a run, by docs/LAYOUT.md.
+pub fn cell_words(n: u64, bins: u64) -> u64 {
+    let lags = n % 256;
+    let b = bins % 1024;
+    32 + 17 * lags + 10 * b + 4 * (times(b, lags) % 4294967296)
+}
+
+pub fn needed(s: Shape) -> u64 {
+    wrapping_add_u64(1, times(s.cells, cell_words(s.lags, s.bins)))
+}
+
+// "Accepted only if S ≤ block < S + M and (phase + 1) × M ≤ B".
+fn bin_wrong(s: Shape, phase: u64, block: u64) -> bool {
+    let blocks = s.blocks;
+    if (block < s.start) | (phase >= s.bins) {
+        return true;
+    }
+    (less(block, s.start) >= blocks) | (times(phase % 1024 + 1, blocks) > s.bins)
+}
+
+// "6: command 011, 101, 110 or above 111. 7: bank not 0 or 1, or the data bin rule broken."
+fn dump_refusal(s: Shape, k: Call) -> u64 {
+    let command = k.a;
+    if (command == 3) | (command == 5) | (command == 6) | (command > 7) {
+        return 6;
+    }
+    if (k.b > 1) | bin_wrong(s, k.phase, k.block) {
+        7
+    } else {
+        0
+    }
+}
+
+// "5: no such cell", and what follows it: "7 (bank, or data bin not below B)", "12: no such lag or loss".
+fn cell_refusal(s: Shape, k: Call) -> u64 {
+    if k.cell >= s.cells {
+        return 5;
+    }
+    let kind = k.kind;
+    match kind {
+        DUMP => dump_refusal(s, k),
+        EMIT => { if (k.a > 1) | (k.b >= s.bins) { 7 } else { 0 } }
+        READING => {
+            if (k.a >= s.lags) | (k.b < 1) | (k.b > 6) {
+                12
+            } else {
+                0
+            }
+        }
+        _ => 0,
+    }
+}
+
+// The first refusal that the arguments alone give, 0 where there is none. "Setup and every call on a run test 1, then
+// 2, first"; "3: not 2C bytes".
+pub fn refusal(s: Shape, k: Call) -> u64 {
+    if shape_wrong(s) {
+        return 1;
+    }
+    if k.words != needed(s) {
+        return 2;
+    }
+    if k.kind == TICK {
+        if k.bytes == 2 * (s.cells % 32) { 0 } else { 3 }
+    } else {
+        cell_refusal(s, k)
+    }
+}
+
+// "Data bin = phase × M + (block - S)", of arguments that are accepted.
+pub fn data_bin(k: Call, blocks: u64, start: u64) -> u64 {
+    wrapping_add_u64(times(k.phase, blocks), less(k.block, start))
+}

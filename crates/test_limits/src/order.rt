@@ -1,0 +1,181 @@
+// "Where several apply, the order stands after each group": each call with every choice of the defects that it may be
+// told of. The first in document 01's order is due.
+use lta_spec::Shape;
+use std::num::wrapping_add_u64;
+use test_lib_calls::row::held_to;
+use test_lib_memory::base::BINS;
+use test_lib_memory::base::NOW;
+use test_lib_memory::base::build;
+use test_lib_memory::base::shape;
+use test_lib_memory::base::variant;
+use test_lib_memory::due::says;
+use test_lib_memory::map::HELD_STAMP;
+use test_lib_memory::map::OPEN_STAMP;
+use test_lib_memory::map::bin;
+use test_lib_memory::map::loss;
+use test_lib_memory::map::register;
+use test_lib_memory::map::row;
+use test_lib_memory::map::start;
+use test_lib_rules::call::Call;
+use test_lib_rules::call::DUMP;
+use test_lib_rules::call::EMIT;
+use test_lib_rules::call::INTEGRATE;
+use test_lib_rules::call::READING;
+use test_lib_rules::call::TICK;
+use test_lib_rules::call::needed;
+use test_lib_tools::report::Tally;
+use test_lib_tools::words::get;
+use test_lib_tools::words::put;
+
+const LAGS: u64 = 2;
+
+// The orders of a tick, a dump, an integration, an emission, a reading and a forecast, as hexadecimal digits, the first
+// lowest: "Then 11", "Order 5, 6, 7, 11", "Order 5, 11, then 8", and so on.
+const ORDER: [u64; 6] = [0xb4321, 0xb76521, 0x8b521, 0xa9b7521, 0xbc521, 0xb521];
+
+// Number j of a call's order, 0 past its end.
+fn number(kind: u64, j: u64) -> u64 {
+    (get(&ORDER, kind) >> (4 * (j % 16))) % 16
+}
+
+// Is number j of the order among the defects of the mask?
+fn chosen(mask: u64, j: u64) -> bool {
+    (mask >> (j % 64)) % 2 == 1
+}
+
+// The first defect in the call's order, 0 where there is none.
+fn first(kind: u64, mask: u64) -> u64 {
+    let mut due: u64 = 0;
+    let mut j: u64 = 0;
+    while j < 7 {
+        if (due == 0) & chosen(mask, j) {
+            due = number(kind, j);
+        }
+        j += 1;
+    }
+    due
+}
+
+// Has the call the defect with this number?
+fn has(kind: u64, mask: u64, x: u64) -> bool {
+    let mut found = false;
+    let mut j: u64 = 0;
+    while j < 7 {
+        let here = chosen(mask, j) & (number(kind, j) == x);
+        found = found | here;
+        j += 1;
+    }
+    found
+}
+
+// One of two numbers.
+fn choose(kind: u64, mask: u64, x: u64, yes: u64, no: u64) -> u64 {
+    if has(kind, mask, x) { yes } else { no }
+}
+
+// 1: no tick of a second.
+fn lent(kind: u64, mask: u64) -> Shape {
+    let s = shape(LAGS);
+    Shape {
+        cells: s.cells,
+        lags: s.lags,
+        bins: s.bins,
+        blocks: s.blocks,
+        start: s.start,
+        rate: choose(kind, mask, 1, 0, s.rate),
+        second: s.second,
+    }
+}
+
+// 3: a byte less. 10: a byte less than a frame.
+fn bytes(kind: u64, mask: u64) -> u64 {
+    if kind == TICK {
+        choose(kind, mask, 3, 3, 4)
+    } else {
+        choose(kind, mask, 10, 49, 50)
+    }
+}
+
+// 6: command 011. 12: lag N.
+fn argument(kind: u64, mask: u64) -> u64 {
+    match kind {
+        DUMP => choose(kind, mask, 6, 3, 0),
+        READING => choose(kind, mask, 12, LAGS, 1),
+        _ => 1,
+    }
+}
+
+// 7: bank 2, data bin B.
+fn second(kind: u64, mask: u64) -> u64 {
+    match kind {
+        DUMP => choose(kind, mask, 7, 2, 1),
+        EMIT => choose(kind, mask, 7, BINS, 0),
+        _ => 4,
+    }
+}
+
+// 2: a word more. 5: cell C.
+fn call(kind: u64, mask: u64) -> Call {
+    let words = needed(shape(LAGS)) % 4294967296;
+    Call {
+        kind: kind,
+        words: choose(kind, mask, 2, words + 1, words),
+        bytes: bytes(kind, mask),
+        cell: choose(kind, mask, 5, 2, 1),
+        a: argument(kind, mask),
+        b: second(kind, mask),
+        phase: 1,
+        block: 0,
+    }
+}
+
+// The word of the last cell that 11 is told of: a register entry, Open's stamp, Held's, the bin's, the ticks of a loss.
+fn damaged(kind: u64) -> u64 {
+    match kind {
+        TICK => register(LAGS, 1),
+        INTEGRATE => HELD_STAMP,
+        EMIT => wrapping_add_u64(bin(LAGS, 2), 1),
+        READING => row(LAGS, loss(6)),
+        _ => OPEN_STAMP,
+    }
+}
+
+// Memory of a Ready bin, and of a Held that is occupied and empty; 4: t is 2,147,483,648; 9: a bin that is Filling.
+fn set_memory(mem: &mut [u64], kind: u64, mask: u64) {
+    let words = needed(shape(LAGS));
+    let v = variant(
+        choose(kind, mask, 8, 0, 1),
+        1,
+        choose(kind, mask, 9, 1, 2),
+        0,
+    );
+    build(
+        &mut *mem,
+        LAGS,
+        v,
+        words,
+        0,
+        choose(kind, mask, 4, 2147483648, NOW),
+    );
+    if has(kind, mask, 11) {
+        put(
+            &mut *mem,
+            wrapping_add_u64(start(LAGS, BINS, 1), damaged(kind)),
+            2147483649,
+        );
+    }
+}
+
+// Row r: kind r div 128, mask r mod 128.
+pub fn refusals(t: Tally, r: u64) -> Tally {
+    let kind = r / 128 % 6;
+    let mask = r % 128;
+    let mut old = [0u64; 320];
+    set_memory(&mut old, kind, mask);
+    let mut mem = old;
+    let k = call(kind, mask);
+    let s = lent(kind, mask);
+    let told = first(kind, mask);
+    let due = if told == 0 { says(s, &old, k) } else { told };
+    held_to(t, s, &mut mem, &old, k, due)
+}

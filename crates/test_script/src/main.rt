@@ -1,0 +1,115 @@
+// Scripts held in memory, each on a fresh run: one script cut at every byte, marks that are unknown, every refusal and
+// every loss that a script can meet, and frames whose words tell signs, banks and data bins apart.
+use lta_spec::Started;
+use script::input::run_bytes;
+use script::shape;
+use script_bytes::head;
+use script_lines::field;
+use script_lines::text;
+
+// A script on a fresh run.
+fn play(s: &[u8]) {
+    let mut mem = [0u64; 103];
+    let Started::Fresh = lta::setup(shape(), &mut mem) else {
+        return;
+    };
+    run_bytes(&mut mem, s);
+}
+
+// A script under the line that says how many bytes it has.
+fn show(s: &[u8]) {
+    text(b"--");
+    field(s.len() as u64);
+    text(b"\n");
+    play(s);
+}
+
+// A tick, a last dump, its integration and its frame: cut behind each byte.
+fn cuts() {
+    let s = b"TK\x02\x03DP\x00\x02\x00\x00\x00\x00IN\x00EM\x00\x00\x00\x00";
+    let mut k: usize = 0;
+    while k <= 21 {
+        show(head(s, k));
+        k += 1;
+    }
+}
+
+// Unknown marks: they stop a script, whatever stands behind them.
+fn marks() {
+    show(b"tk\x02\x03TK\x02\x03");
+    show(b"KT\x02\x03TK\x02\x03");
+    show(b"TK\x02\x03TDP");
+    show(b"IN\x00\x00IN\x00");
+    show(b"\x00\x00");
+    show(b"DE\x00\x00\x00\x00\x00\x00");
+}
+
+// A letter alone, at the front and behind a record: it is a cut record and no end.
+fn lone_letters() {
+    show(b"T");
+    show(b"IN\x00E");
+    show(b"EM\x00\x00\x00\x00I");
+}
+
+// Dumps that are refused: 5, then 6, then 7, each also where the next applies.
+fn dumps() {
+    show(b"DP\x01\x00\x00\x00\x00\x00DP\x01\x03\x02\x02\x00\x01DP\xff\x07\x00\x00\x00\x00");
+    show(
+        b"DP\x00\x03\x00\x00\x00\x00DP\x00\x05\x00\x00\x00\x00DP\x00\x06\x00\x00\x00\x00DP\x00\x08\x02\x00\x00\x00",
+    );
+    show(
+        b"DP\x00\x00\x02\x00\x00\x00DP\x00\x04\x02\x00\x00\x00DP\x00\x07\x00\x02\x00\x00DP\x00\x01\x00\x00\x01\x00",
+    );
+    show(b"DP\x00\x02\x00\x00\x00\x01DP\x00\x02\x01\x01\x00\x00DP\x00\x02\xff\xff\xff\xff");
+}
+
+// Integrations and emissions that are refused: 5, 8; 5, 7, 9.
+fn takers() {
+    show(b"IN\x01IN\x00IN\xff");
+    show(
+        b"EM\x01\x00\x00\x00EM\x01\x02\x02\x00EM\x00\x02\x00\x00EM\x00\x00\x02\x00EM\x00\x01\x00\x01EM\x00\x01\x01\x00",
+    );
+}
+
+// Losses 1 to 4, and a frame of an empty set and of a negative sum.
+fn losses() {
+    show(
+        b"DP\x00\x04\x00\x00\x00\x00DP\x00\x07\x00\x00\x00\x00TK\x07\x09DP\x00\x04\x00\x00\x00\x00",
+    );
+    show(b"DP\x00\x00\x00\x00\x00\x00TK\x01\x01DP\x00\x01\x00\x00\x00\x00IN\x00IN\x00");
+    show(
+        b"DP\x00\x02\x01\x01\x00\x00IN\x00DP\x00\x01\x01\x01\x00\x00IN\x00EM\x00\x01\x01\x00EM\x00\x01\x01\x00",
+    );
+    show(b"TK\x07\x09TK\x07\x09DP\x00\x00\x00\x00\x00\x00IN\x00DP\x00\x00\x00\x00\x00\x00IN\x00");
+    show(
+        b"TK\x07\x09TK\x07\x09TK\x78\x08TK\x97\x39DP\x00\x02\x00\x00\x00\x00IN\x00EM\x00\x00\x00\x00TK\x01\x01",
+    );
+}
+
+// Four negative lag numbers, all different: the last Q is signed as the others, and the sum behind it is not.
+fn signs() {
+    show(
+        b"TK\x17\x65TK\x13\x62TK\x05\x31TK\x02\x47DP\x00\x02\x00\x00\x00\x00IN\x00EM\x00\x00\x00\x00",
+    );
+}
+
+// Bank 1 with data bin 0, then bank 0 with data bin 1: the other of the two is not Ready.
+fn banks() {
+    show(
+        b"TK\x01\x01DP\x00\x02\x01\x00\x00\x00IN\x00EM\x00\x00\x01\x00EM\x00\x01\x00\x00EM\x00\x01\x00\x00",
+    );
+    show(
+        b"TK\x01\x01DP\x00\x02\x00\x01\x00\x00IN\x00EM\x00\x01\x00\x00EM\x00\x00\x01\x00EM\x00\x00\x01\x00",
+    );
+}
+
+fn main() {
+    cuts();
+    marks();
+    lone_letters();
+    dumps();
+    takers();
+    losses();
+    signs();
+    banks();
+}

@@ -1,2 +1,0 @@
--- Laws of whole work memory.
-pub mod RunLaws

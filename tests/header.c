@@ -1,0 +1,35 @@
+/* What a program in C or C++ does with the names of include/lta.h; compiled as both, with every warning an error. */
+#include "lta.h"
+#include "lta.h"
+
+#if LTA_VERSION < 1000 || LTA_VERSION_MAJOR > 999
+#error "LTA_VERSION"
+#endif
+
+typedef char a_shape_has_so_many[LTA_SHAPE_SECOND + 1 == LTA_SHAPE_LEN ? 1 : -1];
+typedef char a_header_has_so_many[LTA_HEAD_OFFSET + 1 == LTA_HEAD_LEN ? 1 : -1];
+typedef char a_reading_has_so_many[LTA_SUMS_Q + 1 == LTA_SUMS_LEN && LTA_COUNTS_CENTRE + 1 == LTA_COUNTS_LEN ? 1 : -1];
+typedef char the_longest_frame[LTA_FRAME_LEN(LTA_LAGS_MOST) == 1058 ? 1 : -1];
+
+int discard(const uint64_t *shape, uint64_t *mem, size_t words, uint64_t cell);
+size_t frame_of(const uint64_t *shape, uint64_t *mem, size_t words, uint8_t *out);
+
+/* 1 where what was open went to loss 1, 0 where it did not, and else the refusal, negative. */
+int discard(const uint64_t *shape, uint64_t *mem, size_t words, uint64_t cell) {
+    uint64_t result = lta_dump(shape, LTA_SHAPE_LEN, mem, words, cell, LTA_COMMAND_DISCARD, 0, 0, 0);
+    switch (LTA_REFUSAL(result)) {
+    case LTA_REFUSAL_NONE:
+        return LTA_ANSWER(result) == LTA_LOSS_ORDERED;
+    case LTA_REFUSAL_NO_CELL:
+        return -LTA_REFUSAL_NO_CELL;
+    default:
+        return -LTA_REFUSAL_BAD_RECORD;
+    }
+}
+
+/* The length of a frame of the first bin, or 0. */
+size_t frame_of(const uint64_t *shape, uint64_t *mem, size_t words, uint8_t *out) {
+    size_t room = LTA_FRAME_LEN(shape[LTA_SHAPE_LAGS]);
+    uint64_t result = lta_emit(shape, LTA_SHAPE_LEN, mem, words, 0, 0, 0, out, room);
+    return LTA_REFUSAL(result) == LTA_REFUSAL_NONE && LTA_ANSWER(result) == room ? room : 0;
+}
