@@ -7,6 +7,7 @@ use native.Mathlib.Omega.{arith}
 use lib.ListN.{length, getD, replicate}
 use Rattle.lta_spec.specs.Shape.{shapeOk}
 use Rattle.lta_spec.specs.Place.{Stamped, Cell}
+use Rattle.lta_spec.specs.Call.{Call}
 use Rattle.lta_spec.specs.Machine as M
 use Rattle.lta_spec.specs.Machine.{Ticks}
 use Rattle.lta_spec.specs.Numbers.{setSums, setFrame}
@@ -115,6 +116,11 @@ none-sent : (sh : Shape) (k c : ℕ) → (getD (replicate k (R.freshUnit sh)) c 
 none-sent sh zero c = refl
 none-sent sh (suc k) zero = refl
 none-sent sh (suc k) (suc c) = none-sent sh k c
+
+-- calls on the run may stand in a list, each after any others
+pub on-run : {A : Type 0} (call : A → Call) (xs : List A) → AllStand (map (λ x. onRun (call x)) xs)
+on-run call [] = tt
+on-run call (x ∷ xs) = (tt, on-run call xs)
 
 pub demand3 : (sh : Shape) → shapeOk sh ≡ true → (cs : List Listed) → AllStand cs → Demand3 sh cs
 demand3 sh ok cs stand =

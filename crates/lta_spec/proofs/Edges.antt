@@ -1,7 +1,7 @@
--- The edges P1 to P12 of document 01. P1 and the worked run take their calls through the plain machine and through the
--- engine on work memory.
+-- The edges P1 to P12 of document 01. The calls of P1 and of the worked run are taken through the plain machine; the
+-- engine on work memory returns the same by demand 3.
 use Prim.Native.Nat.{ℕ, zero, suc, _+_}
-use mathlib.Core.Path.{_≡_, refl}
+use mathlib.Core.Path.{_≡_, refl, _∙_}
 use mathlib.Core.Bool.{Bool, true, false}
 use native.Mathlib.Omega.{arith}
 use lib.Dec.{ltb, eqb}
@@ -28,15 +28,12 @@ use Rattle.lta_spec.specs.Machine as M
 use Rattle.lta_spec.specs.Machine.{Ticks}
 use Rattle.lta_spec.specs.Numbers as N
 use Rattle.lta_spec.specs.MachineRun as R
-use Rattle.lta_spec.specs.Row.{tickRow, rowOk, fromWord}
 use Rattle.lta_spec.specs.Engine as E
-use Rattle.lta_spec.specs.Damage as D
-use Rattle.lta_spec.specs.Layout.{word, block, pair, many, fields}
-use Rattle.lta_spec.specs.Memory.{binL, unitL, runL, start}
 use Rattle.lta_spec.specs.Step as S
 use Rattle.lta_spec.specs.Demand.{machineReturns, engineReturns, freshMem}
 use Rattle.lta_spec.specs.WorkedRun.{workedShape, workedRun, callsOf, returnedBy}
 use Rattle.lta_spec.specs.Edges.{Edges, scriptShape, script, scriptReturned}
+use Rattle.lta_spec.proofs.Demand.{on-run, demand3}
 
 machine-returned : (machineReturns scriptShape script (R.start scriptShape) ≡ scriptReturned)
     × (machineReturns workedShape (callsOf workedRun) (R.start workedShape) ≡ returnedBy workedRun)
@@ -48,16 +45,14 @@ unfolding
     R.verdict R.tickUnits R.heldOff R.withCell R.emitted R.withFrame R.accepted R.step machineReturns
 machine-returned = (refl, refl)
 
+-- the engine returns what the machine returns: demand 3
 engine-returned : (engineReturns scriptShape script (freshMem scriptShape) ≡ scriptReturned)
     × (engineReturns workedShape (callsOf workedRun) (freshMem workedShape) ≡ returnedBy workedRun)
-unfolding
-    lagCountOk shapeOk memoryWords hostTests product weight inPhase quadrature validAt inPhaseAt quadratureAt
-    sealed frameOf header commandOk dataBinOk emittedFields tickRow rowOk fromWord E.lose E.binAt E.hasRoom
-    E.tickBy E.tickUnit E.loseOpen E.holdOpen E.dumpBy E.dumpCell E.release E.stateAfter E.stampAfter
-    E.integrateBy E.integrateAt E.integrateCell E.emptyBin D.lossesOk D.tickSound D.dumpHolds D.dumpParts
-    D.dumpSound D.integrateHolds D.integrateBinSound D.integrateSound D.emitSound word block pair many fields
-    binL unitL runL S.unitsSound S.tickUnits S.heldOff S.withCell S.rowFrame S.accepted S.verdict S.step engineReturns
-engine-returned = (refl, refl)
+unfolding lagCountOk shapeOk
+engine-returned = (
+  (demand3 scriptShape refl script (tt, (tt, (tt, (tt, (tt, (tt, (tt, tt)))))))) .tells ∙ machine-returned .0,
+  (demand3 workedShape refl (callsOf workedRun) (on-run (λ l. l .call) workedRun)) .tells ∙ machine-returned .1,
+)
 
 -- the two sides of a bin's ceiling
 narrow : (a b : ℕ) → a ≡ 16777214 → b ≡ 1 → ltb binLimit (a + b) ≡ false

@@ -16,7 +16,7 @@ use Rattle.lta_spec.specs.Refusals.{firstOf}
 use Rattle.lta_spec.specs.Shape.{shapeTests, shapeOk, lagCountOk, runLimit, binLimit}
 use Rattle.lta_spec.specs.Size.{rowWords, memoryWords, hostTests}
 use Rattle.lta_spec.specs.Place.{Stamped, ready}
-use Rattle.lta_spec.specs.Frame.{accumulated, frameLength, within}
+use Rattle.lta_spec.specs.Frame.{accumulated, frameLength}
 use Rattle.lta_spec.specs.FrameCalls.{writeVerdict}
 use Rattle.lta_spec.specs.Call.{bankOk, binIndex, emittedFields}
 use Rattle.lta_spec.specs.Call.Call.{emit}

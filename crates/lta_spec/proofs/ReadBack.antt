@@ -5,7 +5,7 @@ use mathlib.Core.Bool.{true}
 use mathlib.Core.List.{List, [], _∷_, map}
 use native.Mathlib.Omega.{arith}
 use lib.IntN.{pos}
-use lib.ListN.{length, getD}
+use lib.ListN.{getD}
 use Rattle.lta_spec.specs.Refusals.{decided}
 use Rattle.lta_spec.specs.Shape.{shapeOk, runLimit, binLimit}
 use Rattle.lta_spec.specs.Place.{Stamped}

@@ -1,13 +1,12 @@
 // "Whoever writes in work memory": every word of memory in turn gets every value at or next to a limit, in every
 // variant that matters to a call. Refusal 11 must be told where a part that the call tests breaks a clause, and only
 // there; a bad part that the call does not test stays as it is.
-use test_lib_calls::row::held_to;
 use test_lib_memory::base::NOW;
-use test_lib_memory::base::build;
+use test_lib_memory::base::built;
 use test_lib_memory::base::shape;
 use test_lib_memory::base::variant;
 use test_lib_memory::base::word;
-use test_lib_memory::due::says;
+use test_lib_row::modelled;
 use test_lib_rules::call::Call;
 use test_lib_rules::call::DUMP;
 use test_lib_rules::call::EMIT;
@@ -124,11 +123,7 @@ fn with_value(t: Tally, n: u64, g: u64, i: u64, w: u64, j: u64) -> Tally {
     let v = variant_of(g, i);
     let x = value(j, word(n, v, w, false), word(n, v, w, true));
     let k = call(n, g, i);
-    let mut old = [0u64; 320];
-    build(&mut old, n, v, k.words, w, x);
-    let mut mem = old;
-    let due = says(shape(n), &old, k);
-    held_to(t, shape(n), &mut mem, &old, k, due)
+    modelled(t, shape(n), built(n, v, k.words, w, x), k)
 }
 
 // Row r of call g.

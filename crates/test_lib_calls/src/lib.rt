@@ -1,3 +1,2 @@
-// The calls that are tested, with their answers as numbers (ask), and a call on memory that the test has set (row).
+// The calls that are tested, with their answers as numbers.
 pub mod ask;
-pub mod row;

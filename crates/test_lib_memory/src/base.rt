@@ -142,11 +142,17 @@ fn word_but(n: u64, v: u64, i: u64, w: u64, x: u64) -> u64 {
     if i == w { x } else { word(n, v, i, false) }
 }
 
-// Memory of a variant, with x as word w.
-pub fn build(mem: &mut [u64], n: u64, v: u64, words: u64, w: u64, x: u64) {
+fn build(mem: &mut [u64], n: u64, v: u64, words: u64, w: u64, x: u64) {
     let mut i: u64 = 0;
     while i < words {
         put(&mut *mem, i, word_but(n, v, i, w, x));
         i += 1;
     }
+}
+
+// Memory of a variant, with x as word w, and words behind it that no call is lent.
+pub fn built(n: u64, v: u64, words: u64, w: u64, x: u64) -> [u64; 320] {
+    let mut mem = [0u64; 320];
+    build(&mut mem, n, v, words, w, x);
+    mem
 }

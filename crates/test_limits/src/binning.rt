@@ -3,16 +3,16 @@ use crate::limits::plain;
 use lta_spec::Shape;
 use std::num::wrapping_add_u64;
 use test_lib_calls::ask;
-use test_lib_calls::row::held_to;
 use test_lib_memory::base::BINS;
 use test_lib_memory::base::NOW;
-use test_lib_memory::base::build;
+use test_lib_memory::base::built;
 use test_lib_memory::base::shape;
 use test_lib_memory::base::variant;
 use test_lib_memory::map::BIN;
 use test_lib_memory::map::HELD;
 use test_lib_memory::map::bin_row;
 use test_lib_memory::map::start;
+use test_lib_row::held_to;
 use test_lib_rules::call::ACCEPTED;
 use test_lib_rules::call::Call;
 use test_lib_rules::call::DUMP;
@@ -115,10 +115,15 @@ fn labels(s: Shape, k: Call, due: u64) -> bool {
     let fresh = ask::setup(s, &mut mem, k.words) == ACCEPTED;
     let before = digest(&mem);
     let told = ask::moves(s, &mut mem, k, &[0]);
+    fresh & labelled(&mem, told, before, due)
+}
+
+fn labelled(mem: &[u64], told: u64, before: u64, due: u64) -> bool {
     if due == 1000 {
-        return fresh & (told == 7) & (digest(&mem) == before);
+        (told == 7) & (digest(mem) == before)
+    } else {
+        (told == ACCEPTED) & (get(mem, 1 + BIN) == due)
     }
-    fresh & (told == ACCEPTED) & (get(&mem, 1 + BIN) == due)
 }
 
 // The ticks of a bin and of Held: six pairs, of which the second, fourth and sixth pass 16,777,215 by one.
@@ -143,20 +148,20 @@ fn held_size(pair: u64) -> u64 {
 // "Command 001 or 010 where the joint set would pass 16,777,215 members: Held goes to loss 5": row r is pair r div 3
 // with command r mod 3. 000 replaces whatever is there; with 010 the bin is Ready all the same.
 pub fn wide(t: Tally, r: u64) -> Tally {
-    let pair = r / 3;
-    let command = r % 3;
     let k = plain(INTEGRATE, 1, 0, 0, 0);
-    let mut old = [0u64; 320];
-    build(&mut old, 2, variant(1, command, 1, 0), k.words, 0, NOW);
-    put_set(&mut old, bin_row(2, 2), bin_size(pair));
-    put_set(
-        &mut old,
-        test_lib_memory::map::row(2, HELD),
-        held_size(pair),
-    );
-    let mut mem = old;
-    let loss = pick(command == 0, 4, pick(pair % 2 == 1, 5, 0));
-    held_to(t, shape(2), &mut mem, &old, k, ACCEPTED + loss % 8)
+    let due = ACCEPTED + loss(r / 3, r % 3) % 8;
+    held_to(t, shape(2), memory(r / 3, r % 3), k, due)
+}
+
+fn loss(pair: u64, command: u64) -> u64 {
+    pick(command == 0, 4, pick(pair % 2 == 1, 5, 0))
+}
+
+// The memory of a pair with a command.
+fn memory(pair: u64, command: u64) -> [u64; 320] {
+    let old = built(2, variant(1, command, 1, 0), needed(shape(2)), 0, NOW);
+    let filled = with_set(old, bin_row(2, 2), bin_size(pair));
+    with_set(filled, test_lib_memory::map::row(2, HELD), held_size(pair))
 }
 
 // Word j of a row of so many ticks, all valid, with the sums 98 × ticks and -98 × ticks.
@@ -172,4 +177,11 @@ fn put_set(mem: &mut [u64], at: u64, ticks: u64) {
         put(&mut *mem, wrapping_add_u64(first, j), set_word(ticks, j));
         j += 1;
     }
+}
+
+// Memory with such a row.
+fn with_set(old: [u64; 320], at: u64, ticks: u64) -> [u64; 320] {
+    let mut mem = old;
+    put_set(&mut mem, at, ticks);
+    mem
 }

@@ -1,12 +1,12 @@
 // "Shape of a run" and the arguments of the calls, at both sides of every limit and far past it.
 use lta_spec::Shape;
 use test_lib_calls::ask;
-use test_lib_calls::row::held_to;
 use test_lib_memory::base::NOW;
-use test_lib_memory::base::build;
+use test_lib_memory::base::built;
 use test_lib_memory::base::shape;
 use test_lib_memory::base::variant;
-use test_lib_memory::due::says;
+use test_lib_row::held_to;
+use test_lib_row::modelled;
 use test_lib_rules::call::ACCEPTED;
 use test_lib_rules::call::Call;
 use test_lib_rules::call::DUMP;
@@ -205,10 +205,7 @@ fn calls(t: Tally, s: Shape) -> Tally {
 
 fn call(t: Tally, s: Shape, kind: u64) -> Tally {
     let k = plain(kind, 1, 1, 0, 0);
-    let mut old = [0u64; 320];
-    build(&mut old, 2, variant(1, 1, 2, 0), k.words, 0, NOW);
-    let mut mem = old;
-    held_to(t, s, &mut mem, &old, k, 1)
+    held_to(t, s, built(2, variant(1, 1, 2, 0), k.words, 0, NOW), k, 1)
 }
 
 // Row i of the shapes.
@@ -275,16 +272,6 @@ pub fn arguments(t: Tally, r: u64) -> Tally {
     let p = r / 14 % 7;
     let v = get(&ARGUMENTS, r % 14);
     let k = with(r / 98 % 6, p, pick(p > 4, v % 512 % 300, v));
-    let mut old = [0u64; 320];
-    build(
-        &mut old,
-        2,
-        variant(r / 7, 1, 2, 0),
-        needed(shape(2)),
-        0,
-        NOW,
-    );
-    let mut mem = old;
-    let due = says(shape(2), &old, k);
-    held_to(t, shape(2), &mut mem, &old, k, due)
+    let old = built(2, variant(r / 7, 1, 2, 0), needed(shape(2)), 0, NOW);
+    modelled(t, shape(2), old, k)
 }

@@ -1,8 +1,7 @@
-// Holds the calls on a run to document 01 at both sides of every limit of shapes, arguments and sets, and to the order
-// of its refusals. What is due is written in the rows, or decided by test_lib_memory.
+// Holds the calls on a run to document 01 at both sides of every limit of shapes, arguments and sets. What is due is
+// written in the rows, or decided by test_lib_memory.
 mod binning;
 mod limits;
-mod order;
 
 use test_lib_tools::report::Tally;
 use test_lib_tools::report::line;
@@ -10,7 +9,7 @@ use test_lib_tools::report::verdict;
 use test_lib_tools::words::get;
 
 // How many rows a group has; each may count as some.
-const ROWS: [u64; 5] = [60, 28, 588, 18, 768];
+const ROWS: [u64; 4] = [60, 28, 588, 18];
 
 // Row i of group g.
 fn one(t: Tally, g: u64, i: u64) -> Tally {
@@ -18,8 +17,7 @@ fn one(t: Tally, g: u64, i: u64) -> Tally {
         0 => limits::shapes(t, i),
         1 => binning::data_bins(t, i),
         2 => limits::arguments(t, i),
-        3 => binning::wide(t, i),
-        _ => order::refusals(t, i),
+        _ => binning::wide(t, i),
     }
 }
 
@@ -36,7 +34,7 @@ fn rows(g: u64) -> Tally {
 
 // The line of group g, whose name is here in eight bytes. The shapes have N of their own, the others N = 2.
 fn shown(failed: u64, g: u64) -> u64 {
-    let names = b"shapes  data binargumentwide    order   ";
+    let names = b"shapes  data binargumentwide    ";
     line(failed, 2, names, g, rows(g))
 }
 
@@ -44,6 +42,5 @@ fn main() {
     let shapes = shown(0, 0);
     let bins = shown(shapes, 1);
     let arguments = shown(bins, 2);
-    let wide = shown(arguments, 3);
-    verdict(shown(wide, 4));
+    verdict(shown(arguments, 3));
 }

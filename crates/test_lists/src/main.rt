@@ -1,14 +1,6 @@
 // Holds the calls on a run to document 01, by long lists of calls: every answer, frame and reading, and all words of
 // work memory, are compared with the plain machine of test_lib_machine, which knows sets of tick numbers and the
 // sampler's bytes alone.
-mod step;
-
-use crate::step::LIST;
-use crate::step::MEMORIES;
-use crate::step::SETUPS;
-use crate::step::record;
-use crate::step::step;
-use crate::step::tally;
 use lta_spec::Shape;
 use std::num::wrapping_add_u64;
 use test_lib_calls::ask::setup;
@@ -17,10 +9,16 @@ use test_lib_lists::draw::first_ticks;
 use test_lib_lists::draw::lent_shape;
 use test_lib_machine::machine::shape;
 use test_lib_machine::sets::shape_value;
-use test_lib_numbers::memory::differ;
 use test_lib_rules::call::ACCEPTED;
 use test_lib_rules::call::needed;
 use test_lib_rules::call::shaped;
+use test_lib_step::LIST;
+use test_lib_step::SETUPS;
+use test_lib_step::WORDS;
+use test_lib_step::compare;
+use test_lib_step::record;
+use test_lib_step::step;
+use test_lib_step::tally;
 use test_lib_tools::report::counts;
 use test_lib_tools::report::failures;
 use test_lib_tools::report::part;
@@ -66,7 +64,7 @@ fn fresh(m: &[u64], l: u64, i: u64) -> u64 {
         7 => s.second,
         8 => mix(l, 1),
         9 => ticks_of(l),
-        16..=23 | 25 => get(m, i),
+        16..=23 | WORDS => get(m, i),
         _ => 0,
     }
 }
@@ -106,15 +104,6 @@ fn steps(mem: &mut [u64], m: &mut [u64], a: u64, e: u64) {
         step(&mut *mem, &mut *m, s, k);
         i += 1;
     }
-}
-
-// Every word of memory is compared.
-fn compare(mem: &[u64], m: &mut [u64]) {
-    let words = needed(shape(m));
-    let wrong = differ(mem, m, words);
-    record(&mut *m, MEMORIES, wrong == 0, false);
-    let all = wrapping_add_u64(get(m, 25), words);
-    put(&mut *m, 25, all);
 }
 
 // Part p of a list: its steps, then its memory. Part 0 has the steps before any refusal.
@@ -167,7 +156,7 @@ fn totals(m: &[u64]) {
         total(m, kind);
         kind += 1;
     }
-    say(b"words of memory compared: ", get(m, 25));
+    say(b"words of memory compared: ", get(m, WORDS));
     part(b"\n", 0, 1);
 }
 

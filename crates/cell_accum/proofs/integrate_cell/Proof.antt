@@ -5,7 +5,7 @@ use Prim.Native.Nat.{ℕ, _*_, _<_}
 use native.Mathlib.Omega.{arith}
 use lib.Dec.{eqb}
 use denote.Ref.{now}
-use Rattle.lta_spec.specs.Place.{lossCount, full, replaced, filling, ready}
+use Rattle.lta_spec.specs.Place.{lossCount, replaced, filling, ready}
 use Rattle.lta_spec.specs.Call.{last}
 use Rattle.lta_spec.specs.Engine.{lossAt, binAt, isReplacing, isTooWide, heldBin}
 use Rattle.cell_layout.specs.Cells.{Fits, Small, placesOf}

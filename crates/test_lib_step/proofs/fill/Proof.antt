@@ -1,10 +1,10 @@
--- `test_lists::step::fill` is safe and ends, and keeps the length of what is lent to it. Assumes nothing.
+-- `test_lib_step::fill` is safe and ends, and keeps the length of what is lent to it. Assumes nothing.
 use borrow.Author.Needs.{needs}
 use Prim.Native.Nat.{_-_}
 use mathlib.Core.Path.{_≡_}
 use lib.ListN.{length}
-use Rattle.test_lists.proofs.step.fill.Statement.{statement}
-use Rattle.test_lists.proofs.step.fill.Tie as tie
+use Rattle.test_lib_step.proofs.fill.Statement.{statement}
+use Rattle.test_lib_step.proofs.fill.Tie as tie
 
 abbrev Inv-loop : tie.InvT-loop
 Inv-loop m samples₀ i₀ samples i = length samples ≡ length samples₀

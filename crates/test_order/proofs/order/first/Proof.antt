@@ -1,8 +1,8 @@
--- `test_limits::order::first` is safe and ends. Assumes nothing.
+-- `test_order::order::first` is safe and ends. Assumes nothing.
 use borrow.Author.Needs.{needs}
 use Prim.Native.Nat.{_-_}
-use Rattle.test_limits.proofs.order.first.Statement.{statement}
-use Rattle.test_limits.proofs.order.first.Tie as tie
+use Rattle.test_order.proofs.order.first.Statement.{statement}
+use Rattle.test_order.proofs.order.first.Tie as tie
 
 abbrev Inv-loop : tie.InvT-loop
 Inv-loop kind mask due₀ j₀ due j = Unit {0}

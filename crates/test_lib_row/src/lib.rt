@@ -1,11 +1,11 @@
 // One call on memory that the test has set: its answer, what it wrote, and every word afterwards are held to what
 // document 01 says of those words.
-use crate::ask;
-use crate::ask::Numbers;
 use lta_spec::Shape;
 use std::num::wrapping_sub_u64;
 use test_lib_after::after::right;
 use test_lib_after::frames::frame_right;
+use test_lib_calls::ask;
+use test_lib_calls::ask::Numbers;
 use test_lib_memory::due::says;
 use test_lib_memory::map::cell_of;
 use test_lib_memory::map::loss;
@@ -95,10 +95,20 @@ fn leaves(s: Shape, mem: &[u64], old: &[u64], k: Call, due: u64) -> bool {
     }
 }
 
-// A row: the call on `mem`, whose words are those of `old`, answers `due`, which is also what the model says.
-pub fn held_to(t: Tally, s: Shape, mem: &mut [u64], old: &[u64], k: Call, due: u64) -> Tally {
-    let modelled = says(s, old, k) == due;
+// The call on `mem`, whose words are those of `old`, answers `due`, and leaves what is due.
+fn agrees(s: Shape, mem: &mut [u64], old: &[u64], k: Call, due: u64) -> bool {
     let told = answers(s, &mut *mem, old, k, due);
-    let left = leaves(s, mem, old, k, due);
-    row(t, modelled & told & left, due < ACCEPTED)
+    told & leaves(s, mem, old, k, due)
+}
+
+// A row: the call on these words answers `due`, which is also what the model says.
+pub fn held_to(t: Tally, s: Shape, old: [u64; 320], k: Call, due: u64) -> Tally {
+    let mut mem = old;
+    let so = agrees(s, &mut mem, &old, k, due);
+    row(t, so & (says(s, &old, k) == due), due < ACCEPTED)
+}
+
+// A row in which the model alone says what is due.
+pub fn modelled(t: Tally, s: Shape, old: [u64; 320], k: Call) -> Tally {
+    held_to(t, s, old, k, says(s, &old, k))
 }

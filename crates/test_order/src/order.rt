@@ -2,10 +2,9 @@
 // told of. The first in document 01's order is due.
 use lta_spec::Shape;
 use std::num::wrapping_add_u64;
-use test_lib_calls::row::held_to;
 use test_lib_memory::base::BINS;
 use test_lib_memory::base::NOW;
-use test_lib_memory::base::build;
+use test_lib_memory::base::built;
 use test_lib_memory::base::shape;
 use test_lib_memory::base::variant;
 use test_lib_memory::due::says;
@@ -16,6 +15,7 @@ use test_lib_memory::map::loss;
 use test_lib_memory::map::register;
 use test_lib_memory::map::row;
 use test_lib_memory::map::start;
+use test_lib_row::held_to;
 use test_lib_rules::call::Call;
 use test_lib_rules::call::DUMP;
 use test_lib_rules::call::EMIT;
@@ -141,41 +141,36 @@ fn damaged(kind: u64) -> u64 {
 }
 
 // Memory of a Ready bin, and of a Held that is occupied and empty; 4: t is 2,147,483,648; 9: a bin that is Filling.
-fn set_memory(mem: &mut [u64], kind: u64, mask: u64) {
-    let words = needed(shape(LAGS));
+fn memory(kind: u64, mask: u64) -> [u64; 320] {
     let v = variant(
         choose(kind, mask, 8, 0, 1),
         1,
         choose(kind, mask, 9, 1, 2),
         0,
     );
-    build(
-        &mut *mem,
-        LAGS,
-        v,
-        words,
-        0,
-        choose(kind, mask, 4, 2147483648, NOW),
-    );
+    let t = choose(kind, mask, 4, 2147483648, NOW);
+    let mut mem = built(LAGS, v, needed(shape(LAGS)), 0, t);
     if has(kind, mask, 11) {
         put(
-            &mut *mem,
+            &mut mem,
             wrapping_add_u64(start(LAGS, BINS, 1), damaged(kind)),
             2147483649,
         );
     }
+    mem
+}
+
+// What is due: the first defect in the call's order, or what the model says where there is none.
+fn due(told: u64, s: Shape, old: [u64; 320], k: Call) -> u64 {
+    if told == 0 { says(s, &old, k) } else { told }
 }
 
 // Row r: kind r div 128, mask r mod 128.
 pub fn refusals(t: Tally, r: u64) -> Tally {
     let kind = r / 128 % 6;
     let mask = r % 128;
-    let mut old = [0u64; 320];
-    set_memory(&mut old, kind, mask);
-    let mut mem = old;
+    let old = memory(kind, mask);
     let k = call(kind, mask);
     let s = lent(kind, mask);
-    let told = first(kind, mask);
-    let due = if told == 0 { says(s, &old, k) } else { told };
-    held_to(t, s, &mut mem, &old, k, due)
+    held_to(t, s, old, k, due(first(kind, mask), s, old, k))
 }

@@ -1,20 +1,25 @@
-// One call of a list: its answer and what it wrote are held to the plain machine, which then takes the call itself.
+// One call of a list: its answer and what it wrote are held to the plain machine, which then takes the call itself. And
+// work memory behind some calls, each word of it.
 use lta_spec::Shape;
+use std::num::wrapping_add_u64;
 use test_lib_calls::ask;
 use test_lib_calls::ask::Numbers;
 use test_lib_machine::machine::apply;
 use test_lib_machine::machine::says;
+use test_lib_machine::machine::shape;
 use test_lib_machine::sets::lags;
 use test_lib_machine::sets::members;
 use test_lib_machine::sets::seed;
 use test_lib_machine::sets::sum;
 use test_lib_machine::sets::time;
 use test_lib_numbers::frames::right;
+use test_lib_numbers::memory::differ;
 use test_lib_rules::call::ACCEPTED;
 use test_lib_rules::call::Call;
 use test_lib_rules::call::EMIT;
 use test_lib_rules::call::FORECAST;
 use test_lib_rules::call::READING;
+use test_lib_rules::call::needed;
 use test_lib_rules::call::refusal;
 use test_lib_rules::history::IN_PHASE;
 use test_lib_rules::history::QUADRATURE;
@@ -31,9 +36,12 @@ use test_lib_tools::words::put;
 // Where the tally of a kind of call stands, of the setups, of the memories compared, and of the list.
 pub const SETUPS: u64 = 6;
 
-pub const MEMORIES: u64 = 7;
+const MEMORIES: u64 = 7;
 
 pub const LIST: u64 = 8;
+
+// Where the number of words compared stands.
+pub const WORDS: u64 = 25;
 
 pub fn tally(m: &[u64], kind: u64) -> u64 {
     get(m, 16 + kind % 16)
@@ -151,4 +159,13 @@ pub fn step(mem: &mut [u64], m: &mut [u64], s: Shape, k: Call) {
     let so = agrees(mem, &*m, s, k, due);
     record(&mut *m, k.kind, so, due < ACCEPTED);
     take(m, k, due);
+}
+
+// Every word of memory is compared.
+pub fn compare(mem: &[u64], m: &mut [u64]) {
+    let words = needed(shape(m));
+    let wrong = differ(mem, m, words);
+    record(&mut *m, MEMORIES, wrong == 0, false);
+    let all = wrapping_add_u64(get(m, WORDS), words);
+    put(&mut *m, WORDS, all);
 }

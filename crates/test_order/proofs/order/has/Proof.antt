@@ -1,8 +1,8 @@
--- `test_limits::order::has` is safe and ends. Assumes nothing.
+-- `test_order::order::has` is safe and ends. Assumes nothing.
 use borrow.Author.Needs.{needs}
 use Prim.Native.Nat.{_-_}
-use Rattle.test_limits.proofs.order.has.Statement.{statement}
-use Rattle.test_limits.proofs.order.has.Tie as tie
+use Rattle.test_order.proofs.order.has.Statement.{statement}
+use Rattle.test_order.proofs.order.has.Tie as tie
 
 abbrev Inv-loop : tie.InvT-loop
 Inv-loop kind mask x found₀ j₀ found j = Unit {0}
