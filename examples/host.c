@@ -105,12 +105,12 @@ int main(void) {
     accepted("setup", lta_setup(shape, LTA_SHAPE_LEN, mem, words));
     feed(DISCARDED);
     for (uint64_t cell = 0; cell < CELLS; cell++) {
-        uint64_t result = lta_dump(shape, LTA_SHAPE_LEN, mem, words, cell, LTA_COMMAND_DISCARD, 0, 0, 0);
+        uint64_t result = lta_dump(shape, LTA_SHAPE_LEN, mem, words, cell, LTA_COMMAND_DISCARD, 0, 0);
         expect("what was open goes to loss 1", accepted("a dump", result) == LTA_LOSS_ORDERED);
     }
     feed(TICKS);
     for (uint64_t cell = 0; cell < CELLS; cell++) {
-        uint64_t result = lta_dump(shape, LTA_SHAPE_LEN, mem, words, cell, LTA_COMMAND_LAST, 0, 0, 0);
+        uint64_t result = lta_dump(shape, LTA_SHAPE_LEN, mem, words, cell, LTA_COMMAND_LAST, 0, 0);
         expect("what was open is held", accepted("a dump", result) == LTA_MOVED_KEPT);
         result = lta_integrate(shape, LTA_SHAPE_LEN, mem, words, cell);
         expect("it is kept", accepted("an integration", result) == LTA_MOVED_KEPT);

@@ -15,10 +15,10 @@
  * calls that take it as const, lta_reading and lta_forecast, may run at the same time as each other. The same holds for
  * the other parts lent: what one call may write, no other call reads or writes meanwhile.
  *
- * Saving. Between calls the words may be kept on disc and lent again later, with the same shape, by the same program or
- * another on a machine of the same byte order. They are to be written whole, in a new file that then gets the name of
- * the old one: refusal 11 finds words that are out of their limits, and a copy half old and half new can be within
- * them.
+ * Saving. Between calls the words may be kept on disc and lent again later, with the same shape, by the same program
+ * or another of the same LTA_VERSION on a machine of the same byte order. They are to be written whole, in a new file
+ * that then gets the name of the old one: refusal 11 finds words that are out of their limits, and a copy half old and
+ * half new can be within them.
  */
 #ifndef LTA_H
 #define LTA_H
@@ -34,7 +34,7 @@ extern "C" {
 #endif
 
 #define LTA_VERSION_MAJOR 0
-#define LTA_VERSION_MINOR 1
+#define LTA_VERSION_MINOR 2
 #define LTA_VERSION_PATCH 0
 #define LTA_VERSION (LTA_VERSION_MAJOR * 1000000 + LTA_VERSION_MINOR * 1000 + LTA_VERSION_PATCH)
 
@@ -51,7 +51,7 @@ enum lta_refusal {
     LTA_REFUSAL_RUN_FULL = 4,      /* the run has had 2,147,483,648 ticks */
     LTA_REFUSAL_NO_CELL = 5,       /* no such cell */
     LTA_REFUSAL_BAD_COMMAND = 6,   /* command 3, 5, 6 or above 7 */
-    LTA_REFUSAL_NO_BIN = 7,        /* bank not 0 or 1, the data bin rule broken, or a data bin not below B */
+    LTA_REFUSAL_NO_BIN = 7,        /* bank not 0 or 1, (phase + 1) * M above B, or a data bin not below B */
     LTA_REFUSAL_NOTHING_HELD = 8,  /* Held unoccupied */
     LTA_REFUSAL_NOT_READY = 9,     /* bin not Ready */
     LTA_REFUSAL_SHORT_BUFFER = 10, /* room for less than what the call would write */
@@ -78,7 +78,7 @@ enum lta_shape {
 #define LTA_CELLS_MOST 16
 #define LTA_LAGS_MOST 128
 
-/* The commands of a dump. */
+/* The commands of a dump; what they do to the cell's block stands with lta_dump. */
 enum lta_command {
     LTA_COMMAND_SAVE = 0,    /* 000: hold what is open, to replace what its bin has */
     LTA_COMMAND_ADD = 1,     /* 001: hold what is open, to join its bin */
@@ -146,9 +146,20 @@ uint64_t lta_tick(const uint64_t *shape, size_t shape_len, uint64_t *mem, size_t
                   const uint8_t *samples, size_t samples_len);
 
 /* A dump of one cell; answers LTA_MOVED_KEPT, LTA_MOVED_IDLE, or loss 1 ordered or 2 overrun.
- * Refuses 1, 2, 5: no such cell, 6: bad command, 7: bank or data bin rule, 11. */
+ *
+ * Each cell has a current block, from S to S + M - 1, which its dumps drive. Command 4 returns it to S, and so does
+ * command 2 where the cell's last command before it was 0 or 1. Any other command but 7 moves it one on, and from
+ * S + M - 1 back to S. A cell's first dump but 7 in a fresh run uses S. A dump that goes to a loss moves the block,
+ * and counts as a last command, like one that is kept. Command 7 and a refused dump leave the block where it is, and
+ * neither counts as a last command.
+ *
+ * The block after that step is the dump's: what is held is for data bin phase * M + (block - S) of the bank, and that
+ * bin's frame has the block as its LTA_HEAD_BLOCK.
+ *
+ * Refuses 1, 2, 5: no such cell, 6: bad command, 7: bank not 0 or 1, or (phase + 1) * M above B, 11: damaged memory,
+ * the cell's block and last command included. */
 uint64_t lta_dump(const uint64_t *shape, size_t shape_len, uint64_t *mem, size_t mem_len,
-                  uint64_t cell, uint64_t command, uint64_t bank, uint64_t phase, uint64_t block);
+                  uint64_t cell, uint64_t command, uint64_t bank, uint64_t phase);
 
 /* An integration of one cell; answers LTA_MOVED_KEPT, or loss 3 full, 4 replaced or 5 wide.
  * Refuses 1, 2, 5, 11, 8: nothing held. */

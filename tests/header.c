@@ -16,7 +16,7 @@ size_t frame_of(const uint64_t *shape, uint64_t *mem, size_t words, uint8_t *out
 
 /* 1 where what was open went to loss 1, 0 where it did not, and else the refusal, negative. */
 int discard(const uint64_t *shape, uint64_t *mem, size_t words, uint64_t cell) {
-    uint64_t result = lta_dump(shape, LTA_SHAPE_LEN, mem, words, cell, LTA_COMMAND_DISCARD, 0, 0, 0);
+    uint64_t result = lta_dump(shape, LTA_SHAPE_LEN, mem, words, cell, LTA_COMMAND_DISCARD, 0, 0);
     switch (LTA_REFUSAL(result)) {
     case LTA_REFUSAL_NONE:
         return LTA_ANSWER(result) == LTA_LOSS_ORDERED;

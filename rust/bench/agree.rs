@@ -66,7 +66,7 @@ impl Pair {
         let noise = &mut self.noise;
         let (kind, cell, bank) = (noise.below(16), noise.near(s.cells), noise.near(2));
         let (command, phase) = (noise.below(9), noise.near((s.bins / s.blocks).min(2)));
-        let (block, lag, loss) = (s.start + noise.near(s.blocks), noise.near(s.lags), noise.near(7));
+        let (offset, lag, loss) = (noise.near(s.blocks), noise.near(s.lags), noise.near(7));
         match kind {
             0..=7 => {
                 let short = usize::from(noise.below(50) == 0);
@@ -74,11 +74,11 @@ impl Pair {
                 same("tick", self.proved.tick(&samples), self.peer.tick(&samples));
             }
             8..=10 => {
-                let proved = self.proved.dump(cell, command, bank, phase, block);
-                same("dump", proved, self.peer.dump(cell, command, bank, phase, block));
+                let proved = self.proved.dump(cell, command, bank, phase);
+                same("dump", proved, self.peer.dump(cell, command, bank, phase));
             }
             11..=12 => same("integrate", self.proved.integrate(cell), self.peer.integrate(cell)),
-            13 => self.emit(cell, bank, phase * s.blocks),
+            13 => self.emit(cell, bank, phase * s.blocks + offset),
             14 => same("reading", self.proved.reading(cell, lag, loss), self.peer.reading(cell, lag, loss)),
             _ => same("forecast", self.proved.forecast(cell), self.peer.forecast(cell)),
         }
@@ -120,14 +120,15 @@ impl Pair {
         self.peer.pretend(right);
     }
 
-    /// Time, flags, labels, stamps and counts mean the same in both; ticks do where they pass their limit.
+    /// Time, flags, labels, stamps, blocks, last commands and counts mean the same in both; ticks do where they pass
+    /// their limit.
     fn alter(&mut self) {
         let row = 3 + 2 * self.shape.lags as usize;
-        for word in [0, 1, 2, 3, 524_289, 2_147_483_648, 2_147_483_649, u64::MAX] {
-            for at in 0..7 {
+        for word in [0, 1, 2, 3, 4, 5, 524_289, 2_147_483_648, 2_147_483_649, u64::MAX] {
+            for at in 0..9 {
                 self.with_word(at, word);
             }
-            for ticks_at in (0..8).map(|number| 7 + number * row) {
+            for ticks_at in (0..8).map(|number| 9 + number * row) {
                 self.with_word(ticks_at + 1, word);
                 self.with_word(ticks_at + 2, word);
                 self.with_word(ticks_at, word.max(2_147_483_649));

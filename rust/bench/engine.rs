@@ -7,7 +7,7 @@ pub trait Engine: Sized {
     const NAME: &'static str;
     fn new(shape: Shape) -> Self;
     fn tick(&mut self, samples: &[u8]) -> Result<u32, Refusal>;
-    fn dump(&mut self, cell: u64, command: u64, bank: u64, phase: u64, block: u64) -> Result<u32, Refusal>;
+    fn dump(&mut self, cell: u64, command: u64, bank: u64, phase: u64) -> Result<u32, Refusal>;
     fn integrate(&mut self, cell: u64) -> Result<u32, Refusal>;
     fn emit(&mut self, cell: u64, bank: u64, bin: u64, out: &mut [u8]) -> Result<usize, Refusal>;
     fn reading(&self, cell: u64, lag: u64, loss: u64) -> Result<Sums, Refusal>;
@@ -22,7 +22,7 @@ pub trait Engine: Sized {
 
     fn discard(&mut self, shape: &Shape) {
         for cell in 0..shape.cells {
-            self.dump(cell, Command::Discard as u64, 0, 0, shape.start).expect("a discard");
+            self.dump(cell, Command::Discard as u64, 0, 0).expect("a discard");
         }
     }
 }
@@ -48,8 +48,8 @@ impl Engine for Proved {
         ffi::outcome(ffi::tick(&self.shape, &mut self.words, samples))
     }
 
-    fn dump(&mut self, cell: u64, command: u64, bank: u64, phase: u64, block: u64) -> Result<u32, Refusal> {
-        ffi::outcome(ffi::dump(&self.shape, &mut self.words, cell, command, bank, phase, block))
+    fn dump(&mut self, cell: u64, command: u64, bank: u64, phase: u64) -> Result<u32, Refusal> {
+        ffi::outcome(ffi::dump(&self.shape, &mut self.words, cell, command, bank, phase))
     }
 
     fn integrate(&mut self, cell: u64) -> Result<u32, Refusal> {
@@ -126,8 +126,8 @@ impl Engine for Peer {
         peer::tick(&self.shape, &mut self.words, samples)
     }
 
-    fn dump(&mut self, cell: u64, command: u64, bank: u64, phase: u64, block: u64) -> Result<u32, Refusal> {
-        peer::dump(&self.shape, &mut self.words, cell, command, bank, phase, block).map(number)
+    fn dump(&mut self, cell: u64, command: u64, bank: u64, phase: u64) -> Result<u32, Refusal> {
+        peer::dump(&self.shape, &mut self.words, cell, command, bank, phase).map(number)
     }
 
     fn integrate(&mut self, cell: u64) -> Result<u32, Refusal> {

@@ -1,6 +1,6 @@
 //! The peer: the same contract in plain safe Rust. Work memory is one slice of words that the caller owns, sums are
-//! signed, and every call makes document 01's tests of memory before it writes. No call is inlined, as none of the
-//! proved engine's is, so that its speed does not hang on who calls it.
+//! signed, and every call makes the same tests of memory before it writes. No call is inlined, as none of the proved
+//! engine's is, so that its speed does not hang on who calls it.
 mod cell;
 pub mod frame;
 mod layout;
@@ -21,6 +21,7 @@ const FILLING: i64 = 1;
 const READY: i64 = 2;
 
 const SAVE: u64 = 0b000;
+const ADD: u64 = 0b001;
 const LAST: u64 = 0b010;
 const DISCARD: u64 = 0b100;
 const IDLE: u64 = 0b111;
@@ -97,8 +98,8 @@ fn part(shape: &Shape, layout: &Layout, cell: u64) -> Result<std::ops::Range<usi
     Ok(start..start + layout.words())
 }
 
-fn bin_rule_ok(s: &Shape, bank: u64, phase: u64, block: u64) -> bool {
-    bank < 2 && (s.start..s.start + s.blocks).contains(&block) && phase < s.bins / s.blocks
+fn bin_rule_ok(s: &Shape, bank: u64, phase: u64) -> bool {
+    bank < 2 && phase < s.bins / s.blocks
 }
 
 /// A dump of one cell.
@@ -110,18 +111,16 @@ pub fn dump(
     command: u64,
     bank: u64,
     phase: u64,
-    block: u64,
 ) -> Result<Moved, Refusal> {
     let layout = host(shape, mem.len())?;
     let part = part(shape, &layout, cell)?;
     check(matches!(command, SAVE..=LAST | DISCARD | IDLE), Refusal::BadCommand)?;
-    check(bin_rule_ok(shape, bank, phase, block), Refusal::NoBin)?;
+    check(bin_rule_ok(shape, bank, phase), Refusal::NoBin)?;
     let t = mem[0];
     let words = &mut mem[part];
     let sound = (0..=RUN_LIMIT).contains(&t) && CellRef { layout, words }.dump_ok(t, command);
     check(sound, Refusal::Damaged)?;
-    let bin = phase * shape.blocks + (block - shape.start);
-    Ok(Cell { layout, words }.dump(t, command, bank, bin))
+    Ok(Cell { layout, words }.dump(t, command, bank, phase))
 }
 
 /// An integration of one cell.

@@ -63,7 +63,7 @@ fn round<E: Engine>(engine: &mut E, shape: &Shape, samples: &[u8], out: &mut [u8
     };
     [
         time(&mut |engine, cell| {
-            black_box(engine.dump(cell, Command::Last as u64, 0, 0, shape.start)).expect("a dump");
+            black_box(engine.dump(cell, Command::Last as u64, 0, 0)).expect("a dump");
         }),
         time(&mut |engine, cell| {
             black_box(engine.integrate(cell)).expect("an integration");

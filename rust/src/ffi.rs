@@ -53,7 +53,6 @@ mod c {
             command: u64,
             bank: u64,
             phase: u64,
-            block: u64,
         ) -> u64;
         pub fn lta_integrate(
             shape: *const u64,
@@ -142,28 +141,10 @@ pub fn tick(shape: &[u64], mem: &mut [u64], samples: &[u8]) -> u64 {
 }
 
 /// A dump of one cell; answers 0 if kept, 1 ordered, 2 overrun, 7 for command 7.
-pub fn dump(
-    shape: &[u64],
-    mem: &mut [u64],
-    cell: u64,
-    command: u64,
-    bank: u64,
-    phase: u64,
-    block: u64,
-) -> u64 {
+pub fn dump(shape: &[u64], mem: &mut [u64], cell: u64, command: u64, bank: u64, phase: u64) -> u64 {
     // SAFETY: each slice's own pointer and length; mem is lent for this call alone.
     unsafe {
-        c::lta_dump(
-            shape.as_ptr(),
-            shape.len(),
-            mem.as_mut_ptr(),
-            mem.len(),
-            cell,
-            command,
-            bank,
-            phase,
-            block,
-        )
+        c::lta_dump(shape.as_ptr(), shape.len(), mem.as_mut_ptr(), mem.len(), cell, command, bank, phase)
     }
 }
 
@@ -268,19 +249,19 @@ mod tests {
     #[test]
     fn null_with_length_0() {
         let shape = [1u64, 2, 1, 1, 0, 4, 0];
-        let mut mem = [0u64; 85];
+        let mut mem = [0u64; 87];
         let (numbers, words) = (shape.as_ptr(), mem.as_mut_ptr());
         // SAFETY: arrays with their own lengths, and nothing behind a null pointer.
         unsafe {
             assert_eq!(c::lta_words_needed(null(), 0), 1 << 32);
             assert_eq!(c::lta_setup(numbers, 7, null_mut(), 0), 2 << 32);
-            assert_eq!(c::lta_setup(numbers, 7, words, 85), 0);
-            assert_eq!(c::lta_tick(numbers, 7, words, 85, null(), 0), 3 << 32);
-            assert_eq!(c::lta_dump(numbers, 7, words, 85, 0, 2, 0, 0, 0), 0);
-            assert_eq!(c::lta_integrate(numbers, 7, words, 85, 0), 0);
-            assert_eq!(c::lta_emit(numbers, 7, words, 85, 0, 0, 0, null_mut(), 0), 10 << 32);
+            assert_eq!(c::lta_setup(numbers, 7, words, 87), 0);
+            assert_eq!(c::lta_tick(numbers, 7, words, 87, null(), 0), 3 << 32);
+            assert_eq!(c::lta_dump(numbers, 7, words, 87, 0, 2, 0, 0), 0);
+            assert_eq!(c::lta_integrate(numbers, 7, words, 87, 0), 0);
+            assert_eq!(c::lta_emit(numbers, 7, words, 87, 0, 0, 0, null_mut(), 0), 10 << 32);
             assert_eq!(
-                c::lta_reading(numbers, 7, words, 85, 0, 0, 1, null_mut(), 0, null_mut(), 0),
+                c::lta_reading(numbers, 7, words, 87, 0, 0, 1, null_mut(), 0, null_mut(), 0),
                 10 << 32
             );
             assert_eq!(c::lta_forecast(numbers, 7, null(), 0, 0), 2 << 32);

@@ -2,7 +2,7 @@
 //!
 //! A [`Run`] owns its work memory and takes ticks, dumps, integrations and emissions. A [`Frame`] is what an emission
 //! gives, and what the reader accepts of bytes from elsewhere. A call that is refused gives a [`Refusal`] and changes
-//! nothing. What each call means is in document 01, whose terms are used here.
+//! nothing. What each call means is in document 01 with request 2026-01, whose terms are used here.
 //!
 //! The work is done by a static library that is proved to do it ([`ffi`] is its C interface over slices); this crate
 //! adds types and owns the memory. The library keeps nothing between calls, so that all of a run is its shape and its
@@ -18,7 +18,7 @@
 //! for samples in [[0x02, 0x03], [0x01, 0x0f], [0x08, 0x02]] {
 //!     run.tick(&samples)?;
 //! }
-//! run.dump(0, Command::Last, 0, 0, 0)?;
+//! run.dump(0, Command::Last, 0, 0)?;
 //! run.integrate(0)?;
 //! let frame = run.emit_frame(0, 0, 0)?;
 //! assert_eq!(frame.fields().ticks, 3);

@@ -1,6 +1,6 @@
 //! What a dump orders, where a set goes, and what a loss has taken.
 
-/// The command of a dump.
+/// The command of a dump. What it does to the cell's block stands with [`Run::dump`](crate::Run::dump).
 ///
 /// ```
 /// assert_eq!(lta::Command::Last as u64, 0b010);
@@ -61,7 +61,7 @@ impl Loss {
 /// # use lta::{Command, Loss, Moved, Run, Shape};
 /// # let shape = Shape { cells: 1, lags: 2, bins: 1, blocks: 1, start: 0, rate: 4, second: 0 };
 /// # let mut run = Run::new(shape)?;
-/// match run.dump(0, Command::Discard, 0, 0, 0)? {
+/// match run.dump(0, Command::Discard, 0, 0)? {
 ///     Moved::Lost(loss) => assert_eq!(loss, Loss::Ordered),
 ///     Moved::Kept | Moved::Idle => unreachable!(),
 /// }

@@ -27,7 +27,7 @@ pub enum Refusal {
     NoCell = 5,
     /// Command 011, 101, 110 or above 111.
     BadCommand = 6,
-    /// Bank not 0 or 1, the data bin rule broken, or a data bin not below B.
+    /// Bank not 0 or 1, (phase + 1) × M above B, or a data bin not below B.
     NoBin = 7,
     /// Held unoccupied.
     NothingHeld = 8,
@@ -92,7 +92,7 @@ impl Refusal {
             Refusal::RunFull => "t is 2,147,483,648",
             Refusal::NoCell => "no such cell",
             Refusal::BadCommand => "command 011, 101, 110 or above 111",
-            Refusal::NoBin => "bank not 0 or 1, or the data bin rule broken",
+            Refusal::NoBin => "no such bank, phase bin or data bin",
             Refusal::NothingHeld => "Held unoccupied",
             Refusal::NotReady => "bin not Ready",
             Refusal::ShortBuffer => "buffer shorter than a frame",

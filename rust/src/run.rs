@@ -16,7 +16,7 @@ use crate::{Command, Frame, Loss, Moved, Refusal, Shape, Sums};
 /// let mut run = Run::new(shape)?;
 /// assert_eq!(run.tick(&[0x07, 0x07])?, 0);
 /// assert_eq!(run.integrate(0), Err(Refusal::NothingHeld));
-/// assert_eq!(run.dump(0, Command::Discard, 0, 0, 0)?, Moved::Lost(Loss::Ordered));
+/// assert_eq!(run.dump(0, Command::Discard, 0, 0)?, Moved::Lost(Loss::Ordered));
 /// assert_eq!(run.reading(0, 2, Loss::Ordered)?.ticks, 1);
 /// # Ok(())
 /// # }
@@ -62,7 +62,7 @@ impl Run {
     /// let mut resumed = Run::resume(shape, saved)?;
     /// resumed.tick(&[0x01, 0x0f])?;
     /// assert_eq!(resumed, run);
-    /// assert_eq!(Run::resume(shape, vec![0; 84]), Err(Refusal::WrongMemory));
+    /// assert_eq!(Run::resume(shape, vec![0; 86]), Err(Refusal::WrongMemory));
     /// # Ok::<(), Refusal>(())
     /// ```
     pub fn resume(shape: Shape, words: Vec<u64>) -> Result<Run, Refusal> {
@@ -84,7 +84,7 @@ impl Run {
     /// # let shape = lta::Shape { cells: 1, lags: 2, bins: 1, blocks: 1, start: 0, rate: 4, second: 0 };
     /// let mut run = lta::Run::new(shape)?;
     /// run.tick(&[0, 0])?;
-    /// assert_eq!((run.words().len(), run.words()[0]), (85, 1));
+    /// assert_eq!((run.words().len(), run.words()[0]), (87, 1));
     /// # Ok::<(), lta::Refusal>(())
     /// ```
     pub fn words(&self) -> &[u64] {
@@ -109,23 +109,26 @@ impl Run {
 
     /// A dump of one cell, for data bin phase × M + (block - S). Refuses 5, 7.
     ///
+    /// The block is the cell's current one after this dump's step. It returns to S on 100, and on a 010 where the
+    /// cell's last command before it was 000 or 001; any other command but 111 moves it one on, from S + M - 1 back
+    /// to S. A cell's first dump but 111 in a fresh run uses S. A dump that goes to a loss moves the block, and counts
+    /// as a last command, like one that is kept; 111 and a refused dump do neither.
+    ///
     /// ```
     /// # use lta::{Command, Loss, Moved, Run, Shape};
-    /// # let shape = Shape { cells: 1, lags: 2, bins: 1, blocks: 1, start: 0, rate: 4, second: 0 };
+    /// let shape = Shape { cells: 1, lags: 2, bins: 2, blocks: 2, start: 5, rate: 4, second: 0 };
     /// let mut run = Run::new(shape)?;
-    /// assert_eq!(run.dump(0, Command::Last, 0, 0, 0)?, Moved::Kept);
-    /// assert_eq!(run.dump(0, Command::Last, 0, 0, 0)?, Moved::Lost(Loss::Overrun));
+    /// for (bin, block) in [(0, 5), (1, 6), (0, 5)] {
+    ///     assert_eq!(run.dump(0, Command::Last, 0, 0)?, Moved::Kept);
+    ///     run.integrate(0)?;
+    ///     assert_eq!(run.emit_frame(0, 0, bin)?.fields().block, block);
+    /// }
+    /// assert_eq!(run.dump(0, Command::Add, 0, 0)?, Moved::Kept);
+    /// assert_eq!(run.dump(0, Command::Add, 0, 0)?, Moved::Lost(Loss::Overrun));
     /// # Ok::<(), lta::Refusal>(())
     /// ```
-    pub fn dump(
-        &mut self,
-        cell: u64,
-        command: Command,
-        bank: u64,
-        phase: u64,
-        block: u64,
-    ) -> Result<Moved, Refusal> {
-        let result = ffi::dump(&self.numbers, &mut self.words, cell, command as u64, bank, phase, block);
+    pub fn dump(&mut self, cell: u64, command: Command, bank: u64, phase: u64) -> Result<Moved, Refusal> {
+        let result = ffi::dump(&self.numbers, &mut self.words, cell, command as u64, bank, phase);
         outcome(result).map(Moved::from_answer)
     }
 
@@ -135,7 +138,7 @@ impl Run {
     /// # use lta::{Command, Moved, Refusal, Run, Shape};
     /// # let shape = Shape { cells: 1, lags: 2, bins: 1, blocks: 1, start: 0, rate: 4, second: 0 };
     /// let mut run = Run::new(shape)?;
-    /// run.dump(0, Command::Add, 0, 0, 0)?;
+    /// run.dump(0, Command::Add, 0, 0)?;
     /// assert_eq!(run.integrate(0), Ok(Moved::Kept));
     /// assert_eq!(run.integrate(0), Err(Refusal::NothingHeld));
     /// # Ok::<(), Refusal>(())
@@ -151,7 +154,7 @@ impl Run {
     /// # use lta::{Command, Refusal, Run, Shape};
     /// # let shape = Shape { cells: 1, lags: 2, bins: 1, blocks: 1, start: 0, rate: 4, second: 0 };
     /// let mut run = Run::new(shape)?;
-    /// run.dump(0, Command::Last, 0, 0, 0)?;
+    /// run.dump(0, Command::Last, 0, 0)?;
     /// run.integrate(0)?;
     /// let mut out = [0; 60];
     /// assert_eq!(run.emit(0, 0, 0, &mut out[..49]), Err(Refusal::ShortBuffer));
@@ -170,7 +173,7 @@ impl Run {
     /// # use lta::{Command, Refusal, Run, Shape};
     /// # let shape = Shape { cells: 1, lags: 2, bins: 1, blocks: 1, start: 0, rate: 4, second: 0 };
     /// let mut run = Run::new(shape)?;
-    /// run.dump(0, Command::Last, 1, 0, 0)?;
+    /// run.dump(0, Command::Last, 1, 0)?;
     /// run.integrate(0)?;
     /// assert_eq!(run.emit_frame(0, 1, 0)?.fields().bank, 1);
     /// assert_eq!(run.emit_frame(0, 1, 0), Err(Refusal::NotReady));
@@ -190,7 +193,7 @@ impl Run {
     /// let mut run = Run::new(shape)?;
     /// run.tick(&[0x02, 0x03])?;
     /// run.tick(&[0x01, 0x0f])?;
-    /// run.dump(0, Command::Discard, 0, 0, 0)?;
+    /// run.dump(0, Command::Discard, 0, 0)?;
     /// let sums = Sums { i: 12, q: 0, ticks: 2, edge: 1, centre: 1 };
     /// assert_eq!(run.reading(0, 1, Loss::Ordered), Ok(sums));
     /// assert_eq!(run.reading(0, 2, Loss::Ordered), Err(Refusal::NoLag));

@@ -21,14 +21,14 @@ struct Turn {
 
 fn turn(run: &mut Run, number: u64) -> Turn {
     let x = number.wrapping_mul(0x9e37_79b9_7f4a_7c15).rotate_left(20).to_le_bytes();
-    let [cell, bank, phase, block] = [x[4], x[5], x[6], x[7]].map(|byte| u64::from(byte % 16 / 7));
+    let [cell, bank, phase, offset] = [x[4], x[5], x[6], x[7]].map(|byte| u64::from(byte % 16 / 7));
     let command = COMMANDS[usize::from(x[0] % 5)];
     let pairs = (0..=SHAPE.lags).flat_map(|lag| Loss::ALL.map(|loss| (lag, loss)));
     Turn {
         held_off: run.tick(&x[..4]),
-        dumped: run.dump(cell, command, bank, phase, SHAPE.start + block),
+        dumped: run.dump(cell, command, bank, phase),
         integrated: run.integrate(u64::from(x[1]) % 3),
-        frame: run.emit_frame(cell, bank, 2 * phase + block),
+        frame: run.emit_frame(cell, bank, SHAPE.blocks * phase + offset),
         readings: pairs.map(|(lag, loss)| run.reading(cell, lag, loss)).collect(),
         forecast: run.forecast(cell),
     }

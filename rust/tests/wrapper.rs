@@ -23,10 +23,10 @@ impl Both {
         assert_eq!(self.run.tick(samples), direct);
     }
 
-    fn dump(&mut self, cell: u64, command: Command, bank: u64, phase: u64, block: u64) -> Option<Moved> {
+    fn dump(&mut self, cell: u64, command: Command, bank: u64, phase: u64) -> Option<Moved> {
         let number = command as u64;
-        let result = ffi::dump(&self.shape, &mut self.mem, cell, number, bank, phase, block);
-        self.moved(ffi::outcome(result), |run| run.dump(cell, command, bank, phase, block))
+        let result = ffi::dump(&self.shape, &mut self.mem, cell, number, bank, phase);
+        self.moved(ffi::outcome(result), |run| run.dump(cell, command, bank, phase))
     }
 
     fn integrate(&mut self, cell: u64) -> Option<Moved> {
@@ -96,12 +96,11 @@ fn a_run_is_its_calls() {
     for turn in 0..4000u64 {
         let x = turn.wrapping_mul(0x9e37_79b9_7f4a_7c15).rotate_left(20).to_le_bytes();
         both.tick(&x[..if turn % 50 == 0 { 3 } else { 4 }]);
-        let [cell, bank, phase, block] = [x[4] % 16 / 7, x[5] % 16 / 7, x[6] % 16 / 7, x[7] % 16 / 7];
-        let [cell, bank, phase, block] = [cell, bank, phase, block].map(u64::from);
+        let [cell, bank, phase, offset] = [x[4], x[5], x[6], x[7]].map(|byte| u64::from(byte % 16 / 7));
         let command = commands[usize::from(x[0] % 5)];
-        moves.extend(both.dump(cell, command, bank, phase, SHAPE.start + block));
+        moves.extend(both.dump(cell, command, bank, phase));
         moves.extend(both.integrate(u64::from(x[1]) % 3));
-        both.emit(cell, bank, 2 * phase + block);
+        both.emit(cell, bank, SHAPE.blocks * phase + offset);
         assert_eq!(both.run.words(), both.mem);
         let direct = ffi::outcome(ffi::forecast(&both.shape, &both.mem, cell));
         assert_eq!(both.run.forecast(cell), direct);

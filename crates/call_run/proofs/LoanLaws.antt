@@ -1,15 +1,16 @@
 -- The words of a cell, lent and given back: what they are, and what `step` makes of work memory through them.
 use mathlib.Core.Path.{_≡_, sym, ap, _∙_, subst}
-use mathlib.Core.List.{List}
+use mathlib.Core.List.{List, []}
 use Prim.Native.Nat.{ℕ, _+_, _-_}
 use lib.ListN.{set, take, drop}
 use borrow.Rule.Slice.PartMut.{putMid}
 use Rattle.lta_spec.specs.Size.{cellWords}
 use Rattle.lta_spec.specs.Place.{Cell, Result}
 use Rattle.lta_spec.specs.Answer.{movedAs}
+use Rattle.lta_spec.specs.Answer.Answer.{number}
 use Rattle.lta_spec.specs.declared.Moved.{Moved}
 use Rattle.lta_spec.specs.Call.{Call}
-use Rattle.lta_spec.specs.Engine.{Row, Unit}
+use Rattle.lta_spec.specs.Engine.{Row, Counter, Unit}
 use Rattle.lta_spec.specs.Memory.{unitL, runL}
 use Rattle.lta_spec.specs.Step as S
 use Rattle.lta_spec.specs.declared.Shape.{Shape}
@@ -18,7 +19,7 @@ use Rattle.lta_spec.proofs.WordLaws.{lent, returned}
 use Rattle.lta_spec.proofs.MemoryLaws.{unit-law, unit-width, run-law}
 use Rattle.cell_layout.specs.Lays.{Lays}
 use Rattle.cell_layout.specs.Offsets.{cellAt}
-use Rattle.cell_layout.specs.Cells.{unitOf, placesOf, withPlaces}
+use Rattle.cell_layout.specs.Cells.{unitOf, placesOf, withPlaces, withCounter}
 use Rattle.cell_layout.specs.Moves.{Leaves}
 use Rattle.cell_layout.proofs.LaysLaws.{lays-put, lays-back, lays-to}
 use Rattle.cell_layout.proofs.Fields.{cell}
@@ -54,17 +55,23 @@ module _ {s : Shape} {mem : List ℕ} {c : ℕ} (q : Celled s mem c) {at K : ℕ
   pub loan-back : (places : Cell Row) (vs : List ℕ)
       → Lays (unitL (s .lags) (s .bins)) vs (withPlaces (unitOf (s .lags) (s .bins) loan) places)
       → putMid at (at + K - at) mem vs ≡ (runL s) .put (S.withCell s c places (runOf s mem))
-  unfolding S.withCell
+  unfolding S.withCell S.withDump
   loan-back places vs v =
       lays-put (run-law s) (loan-unit vs _ (lays-to v (ap (λ u. withPlaces u places) (loan-is .unit))))
 
-  -- a dump or an integration of that cell
-  pub loan-moved : (call : Call) (f : Cell Row → Result Row) (m : Moved) (vs : List ℕ)
+  -- a dump or an integration of that cell, which moves its places by f and its block counter by g
+  pub loan-moved : (call : Call) (f : Unit → Result Row) (g : Unit → Counter) (m : Moved) (vs : List ℕ)
       → Accepted ≡ S.verdict s mem call
-      → S.accepted s call (runOf s mem) ≡ S.moved s c (f (S.cellAt s c (runOf s mem))) (runOf s mem)
-      → Leaves (s .lags) (s .bins) (unitOf (s .lags) (s .bins) loan) (f (placesOf (s .lags) (s .bins) loan)) m vs
+      → (let u = S.unitAt s c (runOf s mem) in
+      S.accepted s call (runOf s mem) ≡ record {
+        answer = number ((f u) .answer);
+        out = [];
+        run = S.withDump s c ((f u) .cell) (g u) (runOf s mem);
+      })
+      → (let u = unitOf (s .lags) (s .bins) loan in Leaves (s .lags) (s .bins) (withCounter u (g u)) (f u) m vs)
       → (movedAs m ≡ (S.step s call mem) .answer)
       × (putMid at (at + K - at) mem vs ≡ (S.step s call mem) .mem)
-  loan-moved call f m vs ok acc l =
-      let p : placesOf (s .lags) (s .bins) loan ≡ S.cellAt s c (runOf s mem) = ap (λ u. u .cell) (loan-is .unit) in
-      rw (done s mem call ok, acc, ← p) (l .answer, loan-back _ vs (l .words))
+  unfolding S.withDump
+  loan-moved call f g m vs ok acc l =
+      rw (done s mem call ok, acc, ← loan-is .unit)
+      (l .answer, lays-put (run-law s) (loan-unit vs _ (l .words)))

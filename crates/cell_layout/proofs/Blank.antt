@@ -54,7 +54,8 @@ blank-unit n bins =
     let losses = blank-many (block (rowWords n)) row lossCount in
     let rows = blank-pair _ _ row
     (blank-pair _ _ row (blank-pair _ _ losses (blank-pair _ _ regs (blank-pair _ _ regs bins)))) in
-    let times = blank-pair _ _ w (blank-pair _ _ w rows) in
+    let counter = blank-pair _ _ w (blank-pair _ _ w rows) in
+    let times = blank-pair _ _ w (blank-pair _ _ w counter) in
     blank-pair _ _ w (blank-pair _ _ w (blank-pair _ _ w (blank-pair _ _ w times)))
 
 blank-run : (sh : Shape) → Blank (runL sh) (start sh)

@@ -10,7 +10,8 @@ use Rattle.lta_spec.specs.Place.{Label, Stamped, Held, Bin, lossCount}
 use Rattle.lta_spec.specs.Row.{emptyRow}
 use Rattle.lta_spec.specs.Layout.{Layout, word, block, pair, many}
 use Rattle.lta_spec.specs.Engine.{Row, Unit, stamped, lossAt, freeBin, binAt, freshUnit}
-use Rattle.lta_spec.specs.Memory.{ofBin, toBin, binL, RowParts, CellParts, rowsOf, ofUnit, toUnit, unitL, runL}
+use Rattle.lta_spec.specs.Memory.{ofBin, toBin, binL, RowParts, CounterParts, CellParts}
+use Rattle.lta_spec.specs.Memory.{rowsOf, counterOf, ofUnit, toUnit, unitL, runL}
 use Rattle.lta_spec.specs.Step.{unitAt}
 use Rattle.lta_spec.specs.declared.Shape.{Shape}
 use Rattle.lta_spec.proofs.LayoutLaws.{Law, Any, Long, Each, word-law, block-law, many-law}
@@ -22,6 +23,8 @@ use Rattle.cell_layout.specs.Offsets.{
   dataBinAt,
   openStampAt,
   heldStampAt,
+  blockAt,
+  lastCommandAt,
   openRowAt,
   heldRowAt,
   lossRowAt,
@@ -35,7 +38,7 @@ use Rattle.cell_layout.specs.Offsets.{
   timeAt,
   cellAt,
 }
-use Rattle.cell_layout.specs.Cells.{withPlaces}
+use Rattle.cell_layout.specs.Cells.{withPlaces, withCounter}
 use Rattle.cell_layout.proofs.Field.{Field, whole, here, past, via, within, item, named}
 
 -- a cell with one of its places changed
@@ -99,25 +102,35 @@ module _ (n bins : ℕ) where
   abbrev openL : Layout RowParts
   openL = pair (block (rowWords n)) heldL
 
-  abbrev heldStampL : Layout (ℕ × RowParts)
-  heldStampL = pair word openL
+  abbrev lastCommandL : Layout (ℕ × RowParts)
+  lastCommandL = pair word openL
 
-  abbrev openStampL : Layout (ℕ × (ℕ × RowParts))
+  abbrev blockL : Layout CounterParts
+  blockL = pair word lastCommandL
+
+  abbrev heldStampL : Layout (ℕ × CounterParts)
+  heldStampL = pair word blockL
+
+  abbrev openStampL : Layout (ℕ × (ℕ × CounterParts))
   openStampL = pair word heldStampL
 
-  abbrev dataBinL : Layout (ℕ × (ℕ × (ℕ × RowParts)))
+  abbrev dataBinL : Layout (ℕ × (ℕ × (ℕ × CounterParts)))
   dataBinL = pair word openStampL
 
-  abbrev bankL : Layout (ℕ × (ℕ × (ℕ × (ℕ × RowParts))))
+  abbrev bankL : Layout (ℕ × (ℕ × (ℕ × (ℕ × CounterParts))))
   bankL = pair word dataBinL
 
-  abbrev commandL : Layout (ℕ × (ℕ × (ℕ × (ℕ × (ℕ × RowParts)))))
+  abbrev commandL : Layout (ℕ × (ℕ × (ℕ × (ℕ × (ℕ × CounterParts)))))
   commandL = pair word bankL
 
--- the words of a cell with its rows and what is behind them changed
-abbrev withRows : CellParts → RowParts → CellParts
-withRows (occupied, (command, (bank, (bin, (openStamp, (heldStamp, rows)))))) new =
+-- the words of a cell with its block counter and what is behind it changed; with its rows and what is behind them
+abbrev withCounterParts : CellParts → CounterParts → CellParts
+withCounterParts (occupied, (command, (bank, (bin, (openStamp, (heldStamp, parts)))))) new =
     (occupied, (command, (bank, (bin, (openStamp, (heldStamp, new))))))
+
+abbrev withRows : CellParts → RowParts → CellParts
+withRows (occupied, (command, (bank, (bin, (openStamp, (heldStamp, (offset, (code, rows)))))))) new =
+    (occupied, (command, (bank, (bin, (openStamp, (heldStamp, (offset, (code, new))))))))
 
 -- the fields of a cell
 module _ (n bins : ℕ) where
@@ -157,20 +170,37 @@ module _ (n bins : ℕ) where
       (λ u v. withContent u (stamped (u .cell .held .content .members) v))
   unfolding unitL word
   heldStamp = named (via ofUnit toUnit (λ y. refl)
-      (past word-law (past word-law (past word-law (past word-law (past word-law (here word-law (openL n bins))))))))
+      (past word-law (past word-law (past word-law (past word-law (past word-law (here word-law (blockL n bins))))))))
       (omega arith)
+
+  -- the block counter and what is behind it
+  behindStamps : {C : Type 0} {c : Layout C} {R : C → Type 0} {at : ℕ} {view : CounterParts → C}
+      {over : CounterParts → C → CounterParts} → Field (blockL n bins) c R at view over
+      → Field (unitL n bins) c R (blockAt + at) (λ u. view (counterOf u))
+      (λ u y. toUnit (withCounterParts (ofUnit u) (over (counterOf u) y)))
+  unfolding unitL word
+  behindStamps k =
+      named
+      (via ofUnit toUnit (λ y. refl)
+      (past word-law (past word-law (past word-law (past word-law (past word-law (past word-law k)))))))
+      (omega arith)
+
+  pub currentBlock : Field (unitL n bins) word Any blockAt (λ u. u .counter .offset)
+      (λ u v. withCounter u (record { offset = v; lastCode = u .counter .lastCode }))
+  currentBlock = named (behindStamps (here word-law (lastCommandL n bins))) (omega arith)
+
+  pub lastCommand : Field (unitL n bins) word Any lastCommandAt (λ u. u .counter .lastCode)
+      (λ u v. withCounter u (record { offset = u .counter .offset; lastCode = v }))
+  unfolding word
+  lastCommand = named (behindStamps (past word-law (here word-law (openL n bins)))) (omega arith)
 
   -- the rows and what is behind them
   behindWords : {C : Type 0} {c : Layout C} {R : C → Type 0} {at : ℕ} {view : RowParts → C}
       {over : RowParts → C → RowParts} → Field (openL n bins) c R at view over
       → Field (unitL n bins) c R (openRowAt + at) (λ u. view (rowsOf u))
       (λ u y. toUnit (withRows (ofUnit u) (over (rowsOf u) y)))
-  unfolding unitL word
-  behindWords k =
-      named
-      (via ofUnit toUnit (λ y. refl)
-      (past word-law (past word-law (past word-law (past word-law (past word-law (past word-law k)))))))
-      (omega arith)
+  unfolding word
+  behindWords k = named (behindStamps (past word-law (past word-law k))) (omega arith)
 
   pub openRow : Field (unitL n bins) (block (rowWords n)) (RowOk n) openRowAt (λ u. u .cell .opened .members)
       (λ u r. withOpen u (stamped r (u .cell .opened .stamp)))
@@ -196,7 +226,7 @@ module _ (n bins : ℕ) where
       (omega (arith, add-mul 2 i (rowWords n)))
 
   pub xs : Field (unitL n bins) (block (depth n)) (Long (depth n)) (xsAt n) (λ u. u .xs)
-      (λ u r. record { cell = u .cell; xs = r; ys = u .ys })
+      (λ u r. record { cell = u .cell; counter = u .counter; xs = r; ys = u .ys })
   unfolding block many
   xs =
       named
@@ -205,7 +235,7 @@ module _ (n bins : ℕ) where
       (omega arith)
 
   pub ys : Field (unitL n bins) (block (depth n)) (Long (depth n)) (ysAt n) (λ u. u .ys)
-      (λ u r. record { cell = u .cell; xs = u .xs; ys = r })
+      (λ u r. record { cell = u .cell; counter = u .counter; xs = u .xs; ys = r })
   unfolding block many
   ys =
       named

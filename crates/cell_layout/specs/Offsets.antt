@@ -23,9 +23,16 @@ openStampAt = 4
 abbrev pub heldStampAt : ℕ
 heldStampAt = 5
 
+-- the block counter: the current block's offset from S, and the last command's code
+abbrev pub blockAt : ℕ
+blockAt = 6
+
+abbrev pub lastCommandAt : ℕ
+lastCommandAt = 7
+
 -- the rows of Open, of Held and of the losses
 abbrev pub openRowAt : ℕ
-openRowAt = 6
+openRowAt = 8
 
 abbrev pub heldRowAt : (n : ℕ) → ℕ
 heldRowAt n = openRowAt + rowWords n

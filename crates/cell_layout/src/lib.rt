@@ -23,8 +23,13 @@ pub const OPEN_STAMP: usize = 4;
 
 pub const HELD_STAMP: usize = 5;
 
+// The block counter: the current block as its offset from S; the last command plus 1, 0 for none.
+pub const BLOCK: usize = 6;
+
+pub const LAST_COMMAND: usize = 7;
+
 // Open's row.
-pub const OPEN_ROW: usize = 6;
+pub const OPEN_ROW: usize = 8;
 
 // In a bin, whose first word is its state: its stamp, its row.
 pub const STAMP: usize = 1;
@@ -62,8 +67,10 @@ pub const HOLDOFF: usize = 5;
 
 pub const LOSSES: usize = 6;
 
-// Dump commands: 000, 010, 100 and 111.
+// Dump commands: 000, 001, 010, 100 and 111.
 pub const SAVE: u64 = 0;
+
+pub const ADD: u64 = 1;
 
 pub const LAST: u64 = 2;
 

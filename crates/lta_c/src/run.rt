@@ -51,23 +51,13 @@ pub extern "C" fn lta_dump(
     command: u64,
     bank: u64,
     phase: u64,
-    block: u64,
 ) -> u64
     ensures answer { λ r. ⌜ r
-        ≡ packed ((step (shapeOf (now (shape .entry))) (dump cell command bank phase block) (now (mem .entry)))
-        .answer) ⌝ }
+        ≡ packed ((step (shapeOf (now (shape .entry))) (dump cell command bank phase) (now (mem .entry))) .answer) ⌝ }
     ensures leaves { λ _. ⌜ now (mem .exit)
-        ≡ (step (shapeOf (now (shape .entry))) (dump cell command bank phase block) (now (mem .entry))) .mem ⌝ }
+        ≡ (step (shapeOf (now (shape .entry))) (dump cell command bank phase) (now (mem .entry))) .mem ⌝ }
 {
-    pack(moved(lta::dump(
-        shape_of(shape),
-        &mut *mem,
-        cell,
-        command,
-        bank,
-        phase,
-        block,
-    )))
+    pack(moved(lta::dump(shape_of(shape), &mut *mem, cell, command, bank, phase)))
 }
 
 // An integration of one cell.

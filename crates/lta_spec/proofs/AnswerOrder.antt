@@ -5,7 +5,7 @@ use Rattle.lta_spec.specs.Shape.{lagCountOk, shapeOk}
 use Rattle.lta_spec.specs.Size.{memoryWords, hostTests}
 use Rattle.lta_spec.specs.Frame.{fieldsOf, fixedOk, fieldsOk}
 use Rattle.lta_spec.specs.FrameCalls.{marked, summed, ruled, readVerdict, writeVerdict, normalVerdict}
-use Rattle.lta_spec.specs.Call.{commandOk, dataBinOk, emittedFields}
+use Rattle.lta_spec.specs.Call.{commandOk, phaseOk, emittedFields}
 use Rattle.lta_spec.specs.Row.{rowOk}
 use Rattle.lta_spec.specs.Engine as E
 use Rattle.lta_spec.specs.Damage as D
@@ -17,7 +17,9 @@ use Rattle.lta_spec.specs.AnswerOrder.{Orders}
 pub orders : Orders
 unfolding
     lagCountOk shapeOk memoryWords hostTests part fieldsOf fixedOk fieldsOk marked summed ruled readVerdict
-    writeVerdict normalVerdict emittedFields commandOk dataBinOk rowOk E.binAt E.hasRoom D.lossesOk D.tickSound
+    writeVerdict normalVerdict emittedFields commandOk phaseOk rowOk E.binAt E.hasRoom E.tickBy E.tickUnit E.resets
+    E.offsetAfter E.counted E.dumpBy E.dumpCell E.holdOpen S.tickUnits S.heldOff S.withDump S.accepted D.counterOk
+    D.dumpUnitSound D.lossesOk D.tickSound
     D.dumpHolds D.dumpParts D.dumpSound D.integrateHolds D.integrateBinSound D.integrateSound D.emitSound word block
     pair many fields binL unitL runL S.unitsSound S.verdict S.step
 orders =
@@ -26,6 +28,9 @@ orders =
       sampler-last = refl;
       commander = refl;
       commander-last = refl;
+      counter-block = refl;
+      counter-command = refl;
+      counter-others = refl;
       integrator = refl;
       integrator-last = refl;
       taker = refl;

@@ -49,7 +49,7 @@ tests-other : (sh : Shape) (r : R.Run) (words : ℕ) (call : Call)
     → others (hostTests sh words ++ R.callTests sh r call) ≡ true
 unfolding hostTests
 tests-other sh r words (tick samples) = refl
-tests-other sh r words (dump c command bank phase block) = refl
+tests-other sh r words (dump c command bank phase) = refl
 tests-other sh r words (integrate c) = refl
 tests-other sh r words (emit c bank bin out) = refl
 tests-other sh r words (reading c lag loss) = refl
@@ -58,7 +58,7 @@ tests-other sh r words (reading c lag loss) = refl
 accepted-other : (sh : Shape) (call : Call) (r : R.Run) → (R.accepted sh call r) .answer ≡ refused 11 → ⊥
 unfolding R.accepted
 accepted-other sh (tick samples) r e = let z : _≡_ {A = ℕ} 0 1 = cc in omega arith
-accepted-other sh (dump c command bank phase block) r e = let z : _≡_ {A = ℕ} 0 1 = cc in omega arith
+accepted-other sh (dump c command bank phase) r e = let z : _≡_ {A = ℕ} 0 1 = cc in omega arith
 accepted-other sh (integrate c) r e = let z : _≡_ {A = ℕ} 0 1 = cc in omega arith
 accepted-other sh (emit c bank bin out) r e = let z : _≡_ {A = ℕ} 0 1 = cc in omega arith
 accepted-other sh (reading c lag loss) r e = let z : _≡_ {A = ℕ} 0 1 = cc in omega arith

@@ -27,6 +27,7 @@ use Rattle.lta_spec.specs.declared.Sums.{Sums}
 use Rattle.lta_spec.proofs.ShapeLaws.{shaped}
 use Rattle.lta_spec.proofs.RowLaws.{numbers, numbers-size}
 use Rattle.lta_spec.proofs.SetLaws.{stored-inPhase, stored-quadrature, stored-edge, stored-centre, sums-read}
+use Rattle.lta_spec.proofs.BlockLaws.{last-stored}
 use Rattle.lta_spec.proofs.Carry.{row, mapStamped, mapBin, mapCell, bin-carry, loss-carry}
 use Rattle.lta_spec.proofs.SameCell.{Same}
 use Rattle.lta_spec.proofs.SameRun.{same-at}
@@ -52,9 +53,10 @@ unfolding mapStamped
 equal-stamped n xs ys p = record { numbers = equal n xs ys (p .members); stamp = refl }
 
 -- the places of a related cell
-equal-cell : (n B t : ℕ) (e : E.Unit) (m : R.Unit) → Same n B t e m → EqualCell n e m
+equal-cell : (sh : Shape) (t : ℕ) (e : E.Unit) (m : R.Unit) → Same sh t e m → EqualCell (sh .lags) (sh .start) e m
 unfolding mapCell mapBin
-equal-cell n B t e m s =
+equal-cell sh t e m s =
+    let n = sh .lags in
     let c = s .cell [] [] in
     let xs = m .xs in
     let ys = m .ys in
@@ -68,6 +70,8 @@ equal-cell n B t e m s =
       bins = λ k. rw (bin k) (equal-stamped n xs ys ((M.binAt k (m .cell)) .content));
       states = λ k. ap (λ z. z .state) (bin k);
       losses = λ i. rw (c, loss-carry n xs ys i (m .cell)) (equal n xs ys (getD (m .cell .losses) i []));
+      block = rw (s .counter) (omega (arith, s .good .counter .low));
+      lastCommand = rw (s .counter) (last-stored (m .counter .lastCommand));
     }
 
 -- the numbers of a related cell's rows and of its frames are those of the sets of its places
@@ -125,19 +129,20 @@ on-run call (x ∷ xs) = (tt, on-run call xs)
 pub demand3 : (sh : Shape) → shapeOk sh ≡ true → (cs : List Listed) → AllStand cs → Demand3 sh cs
 demand3 sh ok cs stand =
     let k = shaped sh ok in
-    let f = follow sh (k .some-lags) cs stand (W.start sh) (R.start sh) (start-same sh (k .some-bins)) in
+    let fresh = start-same sh (k .some-bins) (k .some-blocks) in
+    let f = follow sh (k .some-lags) cs stand (W.start sh) (R.start sh) fresh in
     let m = machineAfter sh cs in
     let read : (runL sh) .get (memAfter sh cs) ≡ f .run =
     ap ((runL sh) .get) (f .mem) ∙ loaded sh (f .run) m (f .same) in
-    let at : (c : ℕ) → c < sh .cells → Same (sh .lags) (sh .bins) (m .t) (S.unitAt sh c (f .run)) (R.unitAt sh c m) =
-    λ c h. same-at _ _ (m .t) (f .run .units) (m .units) _ _ (f .same .units) c (omega (arith, f .same .cells)) in
+    let at : (c : ℕ) → c < sh .cells → Same sh (m .t) (S.unitAt sh c (f .run)) (R.unitAt sh c m) =
+    λ c h. same-at sh (m .t) (f .run .units) (m .units) _ _ (f .same .units) c (omega (arith, f .same .cells)) in
     let returned : (c : ℕ) → List (List ℕ) = λ c. framesReturned (sh .lags) c cs (engineReturns sh cs (freshMem sh)) in
     let sent : (c : ℕ) → c < sh .cells → returned c
     ≡ map (setFrame sh c ((R.unitAt sh c m) .xs) ((R.unitAt sh c m) .ys)) ((R.unitAt sh c m) .frames) =
     λ c h.
     ap (framesReturned (sh .lags) c cs) (f .tells)
     ∙ sym (append-nil (framesReturned (sh .lags) c cs (machineReturns sh cs (R.start sh))))
-    ∙ list-framed sh (k .some-lags) cs stand (W.start sh) (R.start sh) (start-same sh (k .some-bins)) c h []
+    ∙ list-framed sh (k .some-lags) cs stand (W.start sh) (R.start sh) fresh c h []
     (λ gx gy. rw (none-sent sh (sh .cells) c)) [] [] in
     let back : (c : ℕ) → (h : c < sh .cells)
     → AllRead sh c ((R.unitAt sh c m) .xs) ((R.unitAt sh c m) .ys) (returned c) ((R.unitAt sh c m) .frames) =
@@ -151,8 +156,8 @@ demand3 sh ok cs stand =
       others = all-keep cs stand;
       words = ap length (f .mem) ∙ sized sh (f .run) m (f .same);
       time = ap (λ r. r .t) read ∙ f .same .t;
-      cells = λ c h. subst (λ r. EqualCell (sh .lags) (S.unitAt sh c r) (R.unitAt sh c m)) (sym read)
-          (equal-cell _ _ (m .t) _ _ (at c h));
+      cells = λ c h. subst (λ r. EqualCell (sh .lags) (sh .start) (S.unitAt sh c r) (R.unitAt sh c m))
+          (sym read) (equal-cell sh (m .t) _ _ (at c h));
       frames = sent;
       once = λ c i h l. at c h .good .once (isTick i) ∙ one-below i (m .t) l;
       never = λ c i h l. at c h .good .once (isTick i) ∙ none-below i (m .t) l;

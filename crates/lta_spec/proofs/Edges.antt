@@ -23,7 +23,7 @@ use Rattle.lta_spec.specs.Words.{part}
 use Rattle.lta_spec.specs.Place.{Label, Cell}
 use Rattle.lta_spec.specs.Frame.{sealed, frameOf, header, fieldsOf, fixedOk, fieldsOk}
 use Rattle.lta_spec.specs.FrameCalls.{marked, summed, ruled, normalVerdict}
-use Rattle.lta_spec.specs.Call.{discard, commandOk, dataBinOk, emittedFields}
+use Rattle.lta_spec.specs.Call.{discard, commandOk, phaseOk, emittedFields}
 use Rattle.lta_spec.specs.Machine as M
 use Rattle.lta_spec.specs.Machine.{Ticks}
 use Rattle.lta_spec.specs.Numbers as N
@@ -34,15 +34,17 @@ use Rattle.lta_spec.specs.Demand.{machineReturns, engineReturns, freshMe
 use Rattle.lta_spec.specs.WorkedRun.{workedShape, workedRun, callsOf, returnedBy}
 use Rattle.lta_spec.specs.Edges.{Edges, scriptShape, script, scriptReturned}
 use Rattle.lta_spec.proofs.Demand.{on-run, demand3}
+use Rattle.lta_spec.proofs.BlockRows.{block-rows}
 
 machine-returned : (machineReturns scriptShape script (R.start scriptShape) ≡ scriptReturned)
     × (machineReturns workedShape (callsOf workedRun) (R.start workedShape) ≡ returnedBy workedRun)
 unfolding
     lagCountOk shapeOk memoryWords hostTests fromByte product weight inPhase quadrature validAt inPhaseAt
-    quadratureAt sealed frameOf header commandOk dataBinOk emittedFields M.lose M.hasRoom M.tickBy M.tickCell
-    M.loseOpen M.holdOpen M.dumpBy M.dumpCell M.release M.stateAfter M.stampAfter M.integrateBy M.binAt
-    M.integrateAt M.integrateCell M.emptyBin N.upTo N.inPhaseSum N.quadratureSum N.validCount N.setFrame
-    R.verdict R.tickUnits R.heldOff R.withCell R.emitted R.withFrame R.accepted R.step machineReturns
+    quadratureAt sealed frameOf header commandOk phaseOk emittedFields M.lose M.hasRoom M.tickBy M.tickCell
+    M.loseOpen M.holdOpen M.dumpBy M.dumpCell M.returns M.oneOn M.counted M.release M.stateAfter M.stampAfter
+    M.integrateBy M.binAt M.integrateAt M.integrateCell M.emptyBin N.upTo N.inPhaseSum N.quadratureSum
+    N.validCount N.setFrame R.verdict R.tickUnits R.heldOff R.withDump R.withCell R.emitted R.withFrame
+    R.accepted R.step machineReturns
 machine-returned = (refl, refl)
 
 -- the engine returns what the machine returns: demand 3
@@ -85,7 +87,7 @@ dumped false false l t c = refl
 
 pub edges : Edges
 unfolding
-    fromByte product weight inPhase quadrature dataBinOk M.tickCell M.tickBy M.hasRoom E.tickBy E.hasRoom
+    fromByte product weight inPhase quadrature phaseOk M.tickCell M.tickBy M.hasRoom E.tickBy E.hasRoom
     M.integrateAt M.integrateBy M.stateAfter M.stampAfter E.integrateAt E.integrateBy M.dumpBy M.dumpCell M.release
     M.binAt M.emptyBin lagCountOk normalVerdict marked summed ruled fieldsOf fixedOk fieldsOk part
 edges =
@@ -106,8 +108,7 @@ edges =
       p5 = (refl, refl);
       p6 = refl;
       p7 = refl;
-      first-block = (refl, refl);
-      last-block = (refl, refl);
+      blocks = block-rows;
       bin-order = refl;
       last-tick = refl;
       run-full = refl;

@@ -45,9 +45,11 @@ unfolding mapBin mapStamped
 bins-ok n xs ys [] = tt
 bins-ok n xs ys (b ∷ bs) = ((tt, (tt, length-numbers n xs ys (b .content .members))), bins-ok n xs ys bs)
 
-unit-ok : (n B t : ℕ) (e : E.Unit) (m : R.Unit) → Same n B t e m → UnitOk n B e
+unit-ok : (sh : Shape) (t : ℕ) (e : E.Unit) (m : R.Unit) → Same sh t e m → UnitOk (sh .lags) (sh .bins) e
 unfolding mapCell mapStamped
-unit-ok n B t e m s =
+unit-ok sh t e m s =
+    let n = sh .lags in
+    let B = sh .bins in
     let c = s .cell [] [] in
     let f = s .good .sound .flat in
     record {
@@ -65,19 +67,20 @@ unit-ok n B t e m s =
           (length-map (m .cell .bins) _ ∙ f .bins, bins-ok n (m .xs) (m .ys) (m .cell .bins));
     }
 
-units-ok : (n B t : ℕ) (es : List E.Unit) (ms : List R.Unit) → AllSame n B t es ms → All (UnitOk n B) es
-units-ok n B t [] [] a = tt
-units-ok n B t [] (m ∷ ms) a = absurd a
-units-ok n B t (e ∷ es) [] a = absurd a
-units-ok n B t (e ∷ es) (m ∷ ms) a = (unit-ok n B t e m (a .0), units-ok n B t es ms (a .1))
+units-ok : (sh : Shape) (t : ℕ) (es : List E.Unit) (ms : List R.Unit) → AllSame sh t es ms
+    → All (UnitOk (sh .lags) (sh .bins)) es
+units-ok sh t [] [] a = tt
+units-ok sh t [] (m ∷ ms) a = absurd a
+units-ok sh t (e ∷ es) [] a = absurd a
+units-ok sh t (e ∷ es) (m ∷ ms) a = (unit-ok sh t e m (a .0), units-ok sh t es ms (a .1))
 
 run-ok : (sh : Shape) (e : W.Run) (m : R.Run) → SameRun sh e m → RunOk sh e
 run-ok sh e m s = (
   tt,
   (
-    same-length _ _ (m .t) (e .units) (m .units) (s .units)
+    same-length sh (m .t) (e .units) (m .units) (s .units)
         ∙ s .cells,
-    units-ok _ _ (m .t) (e .units) (m .units) (s .units),
+    units-ok sh (m .t) (e .units) (m .units) (s .units),
   ),
 )
 
@@ -212,16 +215,17 @@ over-replicate : {A : Type 0} (f : A → ℕ) (n : ℕ) (a : A) → f a ≡ 0 �
 over-replicate f zero a e = refl
 over-replicate f (suc n) a e = omega (arith, over-replicate f n a e)
 
-fresh-same : (sh : Shape) → 0 < sh .bins
-    → Same (sh .lags) (sh .bins) 0 (E.freshUnit (sh .lags) (sh .bins)) (R.freshUnit sh)
+fresh-same : (sh : Shape) → 0 < sh .bins → 0 < sh .blocks
+    → Same sh 0 (E.freshUnit (sh .lags) (sh .bins)) (R.freshUnit sh)
 unfolding mapCell mapBin mapStamped M.binAt
-fresh-same sh some =
+fresh-same sh some one =
     let n = sh .lags in
     let B = sh .bins in
     let empty : window n [] ≡ zeros (depth n) =
     take-all (depth n) (zeros (depth n)) (omega (arith, length-replicate {A = ℕ} (depth n) 0)) in
     record {
       cell = λ gx gy. simp map-replicate;
+      counter = ap (λ o. record { offset = o; lastCode = 0 }) (omega arith);
       xs = sym empty;
       ys = sym empty;
       good =
@@ -233,6 +237,7 @@ fresh-same sh some =
                   flat = omega (arith, length-replicate (2 * B) M.freeBin);
                   bins = λ k. subst (BinSound 0) (sym (getD-replicate (2 * B) k M.freeBin)) (omega arith);
                 };
+            counter = record { low = omega arith; high = omega arith; command = refl };
             once = λ f.
                 omega (
                   arith,
@@ -243,16 +248,16 @@ fresh-same sh some =
           };
     }
 
-all-fresh : (sh : Shape) → 0 < sh .bins → (k : ℕ)
-    → AllSame (sh .lags) (sh .bins) 0 (replicate k (E.freshUnit (sh .lags) (sh .bins))) (replicate k (R.freshUnit sh))
-all-fresh sh some zero = tt
-all-fresh sh some (suc k) = (fresh-same sh some, all-fresh sh some k)
+all-fresh : (sh : Shape) → 0 < sh .bins → 0 < sh .blocks → (k : ℕ)
+    → AllSame sh 0 (replicate k (E.freshUnit (sh .lags) (sh .bins))) (replicate k (R.freshUnit sh))
+all-fresh sh some one zero = tt
+all-fresh sh some one (suc k) = (fresh-same sh some one, all-fresh sh some one k)
 
-pub start-same : (sh : Shape) → 0 < sh .bins → SameRun sh (W.start sh) (R.start sh)
-start-same sh some =
+pub start-same : (sh : Shape) → 0 < sh .bins → 0 < sh .blocks → SameRun sh (W.start sh) (R.start sh)
+start-same sh some one =
     record {
       t = refl;
       limit = omega arith;
       cells = length-replicate (sh .cells) (R.freshUnit sh);
-      units = all-fresh sh some (sh .cells);
+      units = all-fresh sh some one (sh .cells);
     }

@@ -95,9 +95,10 @@ module _ (sh : Shape) (wide : 2 ≤ sh .lags) (e : W.Run) (m : R.Run) (s : SameR
   returnedBy call r = frameReturned (sh .lags) c (onRun call) (record { answer = r .answer; out = r .out })
 
   -- a dump or an integration
-  moved-framed : (d : ℕ) (cell : Cell Ticks) → Framed sh c fs (R.unitAt sh c (R.withCell sh d cell m))
-  unfolding R.withCell
-  moved-framed d cell =
+  moved-framed : (d : ℕ) (cell : Cell Ticks) (k : M.Counter)
+      → Framed sh c fs (R.unitAt sh c (R.withDump sh d cell k m))
+  unfolding R.withDump
+  moved-framed d cell k =
       set-at sh (m .units) c d _ (R.freshUnit sh) fs fs there
       (λ same gx gy. subst (λ k. Framed sh c fs (R.unitAt sh k m)) (sym (eqb-true d c same)) p gx gy) (λ _. refl) p
 
@@ -127,6 +128,7 @@ module _ (sh : Shape) (wide : 2 ≤ sh .lags) (e : W.Run) (m : R.Run) (s : SameR
     left =
         record {
           cell = M.emptyBin (binIndex (sh .bins) bank bin) (was .cell);
+          counter = was .counter;
           frames = sent ∷ was .frames;
           xs = was .xs;
           ys = was .ys;
@@ -155,10 +157,10 @@ module _ (sh : Shape) (wide : 2 ≤ sh .lags) (e : W.Run) (m : R.Run) (s : SameR
   -- every call
   accepted-framed : (call : Call) → firstOf (R.callTests sh m call) ≡ Accepted
       → Framed sh c (returnedBy call (R.accepted sh call m) ++ fs) (R.unitAt sh c ((R.accepted sh call m) .run))
-  unfolding R.accepted R.withFrame
+  unfolding R.accepted R.withFrame R.withCell
   accepted-framed (tick samples) v = tick-at (m .t) samples (m .units) c (R.freshUnit sh) there sh fs p
-  accepted-framed (dump d command bank phase block) v = moved-framed d _
-  accepted-framed (integrate d) v = moved-framed d _
+  accepted-framed (dump d command bank phase) v = moved-framed d _ _
+  accepted-framed (integrate d) v = moved-framed d _ _
   accepted-framed (emit d bank bin out) v =
       let k = binIndex (sh .bins) bank bin in
       let x = pass (ltb d (sh .cells)) _ _ v in
@@ -171,7 +173,7 @@ module _ (sh : Shape) (wide : 2 ≤ sh .lags) (e : W.Run) (m : R.Run) (s : SameR
   refused-returned : (call : Call) (k : ℕ)
       → returnedBy call (record { answer = refused k; out = lentTo call; run = m }) ≡ []
   refused-returned (tick samples) k = refl
-  refused-returned (dump d command bank phase block) k = refl
+  refused-returned (dump d command bank phase) k = refl
   refused-returned (integrate d) k = refl
   refused-returned (emit d bank bin out) k = by-test (eqb d c)
     where

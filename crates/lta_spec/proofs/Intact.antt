@@ -108,10 +108,10 @@ module _ (n B t : ℕ) (xs ys : List ℕ) (c : Cell Ticks) (s : Sound B t c) (fe
     unfolding mapBin mapStamped
     bin-size k = rw (bin-carry n xs ys k c) (numbers-size n xs ys ((M.binAt k c) .content .members))
 
-    pub tick-intact : (wx wy : List ℕ) → t < runLimit
-        → D.tickSound n t (record { cell = e; xs = window n wx; ys = window n wy }) ≡ true
+    pub tick-intact : (k : E.Counter) (wx wy : List ℕ) → t < runLimit
+        → D.tickSound n t (record { cell = e; counter = k; xs = window n wx; ys = window n wy }) ≡ true
     unfolding D.tickSound
-    tick-intact wx wy l =
+    tick-intact k wx wy l =
         both (both (window-ok n wx) (window-ok n wy))
         (both open-ok (both losses-ok (either (E.hasRoom n e) _ (holds 5 1 (omega arith)))))
 

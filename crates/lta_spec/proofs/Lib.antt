@@ -14,6 +14,7 @@ pub mod SetLaws
 pub mod LayoutLaws
 pub mod MemoryLaws
 pub mod EmittedBack
+pub mod BlockLaws
 pub mod Carry
 pub mod Conserve
 pub mod Sound
@@ -26,5 +27,6 @@ pub mod Totals
 pub mod Frames
 pub mod ReadBack
 pub mod Demand
+pub mod BlockRows
 pub mod Edges
 pub mod AnswerOrder

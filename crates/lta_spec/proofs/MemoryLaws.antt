@@ -60,18 +60,20 @@ module _ (n bins : ℕ) where
       law-as
       (λ u o.
       record {
-        opened = o .1 .1 .1 .1 .1 .1 .0;
-        held = o .1 .1 .1 .1 .1 .1 .1 .0;
-        losses = o .1 .1 .1 .1 .1 .1 .1 .1 .0;
-        xs = o .1 .1 .1 .1 .1 .1 .1 .1 .1 .0;
-        ys = o .1 .1 .1 .1 .1 .1 .1 .1 .1 .1 .0;
-        bins = o .1 .1 .1 .1 .1 .1 .1 .1 .1 .1 .1;
+        opened = o .1 .1 .1 .1 .1 .1 .1 .1 .0;
+        held = o .1 .1 .1 .1 .1 .1 .1 .1 .1 .0;
+        losses = o .1 .1 .1 .1 .1 .1 .1 .1 .1 .1 .0;
+        xs = o .1 .1 .1 .1 .1 .1 .1 .1 .1 .1 .1 .0;
+        ys = o .1 .1 .1 .1 .1 .1 .1 .1 .1 .1 .1 .1 .0;
+        bins = o .1 .1 .1 .1 .1 .1 .1 .1 .1 .1 .1 .1 .1;
       })
       (λ u o. (
         tt,
-        (tt, (tt, (tt, (tt, (tt, (o .opened, (o .held, (o .losses, (o .xs, (o .ys, o .bins)))))))))),
+        (tt, (tt, (tt, (tt, (tt, (tt, (tt, (o .opened, (o .held, (o .losses, (o .xs, (o .ys, o .bins)))))))))))),
       ))
       (fields-law ofUnit toUnit (λ x. refl) (λ y. refl)
+      (pair-law word-law
+      (pair-law word-law
       (pair-law word-law
       (pair-law word-law
       (pair-law word-law
@@ -82,7 +84,7 @@ module _ (n bins : ℕ) where
       (pair-law (row-law n)
       (pair-law (many-law (row-law n) lossCount)
       (pair-law (block-law (depth n))
-      (pair-law (block-law (depth n)) (many-law (bin-law n) (2 * bins))))))))))))))
+      (pair-law (block-law (depth n)) (many-law (bin-law n) (2 * bins))))))))))))))))
 
   pub unit-width : (unitL n bins) .width ≡ cellWords n bins
   unfolding unitL fields pair word block many

@@ -1,7 +1,7 @@
 -- The engine's cell and the machine's: what relates them, and that ticks, dumps, integrations and emissions keep it.
 use Prim.Native.Nat.{ℕ, zero, suc, _≤_, _<_}
 use mathlib.Core.Path.{_≡_, refl, sym, ap, ap₂, _∙_, subst, fun-ext}
-use mathlib.Core.Bool.{false}
+use mathlib.Core.Bool.{true, false}
 use mathlib.Core.List.{List, [], _∷_, _++_, map}
 use native.Mathlib.Omega.{arith}
 use lib.Dec.{eqb}
@@ -11,7 +11,7 @@ use borrow.Author.Tests.{eqb-false}
 use Rattle.lta_spec.specs.Tick.{fromByte}
 use Rattle.lta_spec.specs.Shape.{binLimit}
 use Rattle.lta_spec.specs.Place.{Label, Cell}
-use Rattle.lta_spec.specs.Call.{idle, discard, binIndex}
+use Rattle.lta_spec.specs.Call.{idle, discard, commandOk, binIndex}
 use Rattle.lta_spec.specs.Row.{tickRow, fromWord}
 use Rattle.lta_spec.specs.Machine as M
 use Rattle.lta_spec.specs.Machine.{Ticks}
@@ -20,9 +20,11 @@ use Rattle.lta_spec.specs.MachineRun as R
 use Rattle.lta_spec.specs.Engine as E
 use Rattle.lta_spec.specs.Engine.{Row}
 use Rattle.lta_spec.specs.Demand.{places, overAll, ticksBelow}
+use Rattle.lta_spec.specs.declared.Shape.{Shape}
 use Rattle.lta_spec.proofs.ShapeLaws.{index-below}
 use Rattle.lta_spec.proofs.LayoutLaws.{All}
 use Rattle.lta_spec.proofs.RowLaws.{numbers-one, window, window-shift, ago-window, row-same}
+use Rattle.lta_spec.proofs.BlockLaws.{stored, CounterSound, counted-same, counted-sound}
 use Rattle.lta_spec.proofs.Carry.{row, mapCell, mapResult, tick-carry, dump-carry, integrate-carry, empty-carry}
 use Rattle.lta_spec.proofs.Conserve.{tally, tally-ones, overCell, over-places}
 use Rattle.lta_spec.proofs.Conserve.{tick-total, dump-total, integrate-total, empty-total}
@@ -42,28 +44,30 @@ sent-later B t (e ∷ es) a =
     (record { bank = s .bank; bin = s .bin; few = s .few; stamp = omega arith }, sent-later B t es (a .1))
 
 -- the machine's cell: as many bytes as ticks, sound, and each tick once in its places
-pub record Good (B t : ℕ) (m : R.Unit) : Type 0 where
+pub record Good (sh : Shape) (t : ℕ) (m : R.Unit) : Type 0 where
   pub takenX : length (m .xs) ≡ t
   pub takenY : length (m .ys) ≡ t
-  pub sound : Sound B t (m .cell)
+  pub sound : Sound (sh .bins) t (m .cell)
+  pub counter : CounterSound (sh .start) (sh .blocks) (m .counter)
   -- any quantity of the ticks: its sum over the places is its sum over the ticks taken
   pub once : (f : ℕ → ℕ) → overAll (tally f) (places m) ≡ tally f (ticksBelow t)
-  pub frames : All (Sent B t) (m .frames)
+  pub frames : All (Sent (sh .bins) t) (m .frames)
 
 -- the engine's cell has, in each place, the row of the machine's set, whatever bytes come later
-pub record Same (n B t : ℕ) (e : E.Unit) (m : R.Unit) : Type 0 where
-  pub cell : (gx gy : List ℕ) → e .cell ≡ mapCell (row n (gx ++ m .xs) (gy ++ m .ys)) (m .cell)
-  pub xs : e .xs ≡ window n (m .xs)
-  pub ys : e .ys ≡ window n (m .ys)
-  pub good : Good B t m
+pub record Same (sh : Shape) (t : ℕ) (e : E.Unit) (m : R.Unit) : Type 0 where
+  pub cell : (gx gy : List ℕ) → e .cell ≡ mapCell (row (sh .lags) (gx ++ m .xs) (gy ++ m .ys)) (m .cell)
+  pub counter : e .counter ≡ stored (sh .start) (m .counter)
+  pub xs : e .xs ≡ window (sh .lags) (m .xs)
+  pub ys : e .ys ≡ window (sh .lags) (m .ys)
+  pub good : Good sh t m
 
 ones-below : (t : ℕ) → tally (λ i. 1) (ticksBelow t) ≡ t
 ones-below zero = refl
 ones-below (suc t) = omega (arith, ones-below t)
 
 -- the places of a cell have no more members than there were ticks
-pub few : (B t : ℕ) (m : R.Unit) → Good B t m → overCell length (m .cell) ≤ t
-few B t m g =
+pub few : (sh : Shape) (t : ℕ) (m : R.Unit) → Good sh t m → overCell length (m .cell) ≤ t
+few sh t m g =
     let f : tally (λ i. 1) ≡ length = fun-ext tally-ones in
     let p : overCell (tally (λ i. 1)) (m .cell) ≤ t =
     omega (arith, g .once (λ i. 1), over-places (tally (λ i. 1)) m, ones-below t) in
@@ -82,39 +86,51 @@ held-none B t c s f e =
     tally-none f (c .held .content .members) (omega arith)
 
 -- a tick
-module _ (n B t : ℕ) (wide : 2 ≤ n) (x y : ℕ) (e : E.Unit) (m : R.Unit) (s : Same n B t e m) where
+module _ (sh : Shape) (t : ℕ) (wide : 2 ≤ sh .lags) (x y : ℕ) (e : E.Unit) (m : R.Unit) (s : Same sh t e m) where
   abbrev pub ticked : R.Unit
-  ticked = record { cell = M.tickCell t (m .cell); frames = m .frames; xs = x ∷ m .xs; ys = y ∷ m .ys }
+  ticked =
+      record {
+        cell = M.tickCell t (m .cell);
+        counter = m .counter;
+        frames = m .frames;
+        xs = x ∷ m .xs;
+        ys = y ∷ m .ys;
+      }
 
-  new-xs : E.shifted n x (e .xs) ≡ window n (x ∷ m .xs)
-  new-xs = rw (s .xs) (window-shift n x (m .xs))
+  new-xs : E.shifted (sh .lags) x (e .xs) ≡ window (sh .lags) (x ∷ m .xs)
+  new-xs = rw (s .xs) (window-shift (sh .lags) x (m .xs))
 
-  new-ys : E.shifted n y (e .ys) ≡ window n (y ∷ m .ys)
-  new-ys = rw (s .ys) (window-shift n y (m .ys))
+  new-ys : E.shifted (sh .lags) y (e .ys) ≡ window (sh .lags) (y ∷ m .ys)
+  new-ys = rw (s .ys) (window-shift (sh .lags) y (m .ys))
 
-  new-row : tickRow n (map fromWord (E.shifted n x (e .xs))) (map fromWord (E.shifted n y (e .ys)))
-      ≡ tickRow n (map fromByte (x ∷ m .xs)) (map fromByte (y ∷ m .ys))
+  new-row : tickRow (sh .lags) (map fromWord (E.shifted (sh .lags) x (e .xs)))
+      (map fromWord (E.shifted (sh .lags) y (e .ys)))
+      ≡ tickRow (sh .lags) (map fromByte (x ∷ m .xs)) (map fromByte (y ∷ m .ys))
   new-row =
       rw (new-xs, new-ys)
-      (row-same n _ _ _ _ (λ d h. ago-window n (x ∷ m .xs) d h) (λ d h. ago-window n (y ∷ m .ys) d h) wide)
+      (row-same (sh .lags) _ _ _ _ (λ d h. ago-window (sh .lags) (x ∷ m .xs) d h)
+      (λ d h. ago-window (sh .lags) (y ∷ m .ys) d h) wide)
 
-  pub tick-same : Same n B (suc t) (E.tickUnit n x y e) ticked
+  pub tick-same : Same sh (suc t) (E.tickUnit (sh .lags) x y e) ticked
   unfolding E.tickUnit
   tick-same =
       record {
         cell = λ gx gy.
-            let c : e .cell ≡ mapCell (row n (gx ++ x ∷ m .xs) (gy ++ y ∷ m .ys)) (m .cell) =
+            let c : e .cell ≡ mapCell (row (sh .lags) (gx ++ x ∷ m .xs) (gy ++ y ∷ m .ys)) (m .cell) =
             rw (append-snoc gx x (m .xs), append-snoc gy y (m .ys)) at (s .cell (gx ++ x ∷ []) (gy ++ y ∷ [])) in
-            let r = new-row ∙ sym (numbers-one n gx (m .xs) gy (m .ys) x y t (s .good .takenX) (s .good .takenY)) in
-            ap₂ (λ q z. E.tickBy n (E.hasRoom n q) z q) c r
-            ∙ sym (tick-carry n (gx ++ x ∷ m .xs) (gy ++ y ∷ m .ys) t (m .cell));
+            let g = s .good in
+            let r = new-row ∙ sym (numbers-one (sh .lags) gx (m .xs) gy (m .ys) x y t (g .takenX) (g .takenY)) in
+            ap₂ (λ q z. E.tickBy (sh .lags) (E.hasRoom (sh .lags) q) z q) c r
+            ∙ sym (tick-carry (sh .lags) (gx ++ x ∷ m .xs) (gy ++ y ∷ m .ys) t (m .cell));
+        counter = s .counter;
         xs = new-xs;
         ys = new-ys;
         good =
             record {
               takenX = ap suc (s .good .takenX);
               takenY = ap suc (s .good .takenY);
-              sound = tick-sound B t (m .cell) (s .good .sound);
+              sound = tick-sound _ t (m .cell) (s .good .sound);
+              counter = s .good .counter;
               once = λ f.
                   omega (
                     arith,
@@ -123,28 +139,37 @@ module _ (n B t : ℕ) (wide : 2 ≤ n) (x y : ℕ) (e : E.Unit) (m : R.Unit) (s
                     tick-total f (m .cell) (s .good .sound .flat .losses) t,
                     s .good .once f,
                   );
-              frames = sent-later B t (m .frames) (s .good .frames);
+              frames = sent-later _ t (m .frames) (s .good .frames);
             };
       }
 
 -- a call that changes places of a cell
-module _ (n B t : ℕ) (e : E.Unit) (m : R.Unit) (s : Same n B t e m) where
-  -- the units with other places
-  abbrev pub engineWith : Cell Row → E.Unit
-  engineWith c = record { cell = c; xs = e .xs; ys = e .ys }
+module _ (sh : Shape) (t : ℕ) (e : E.Unit) (m : R.Unit) (s : Same sh t e m) where
+  abbrev n : ℕ
+  n = sh .lags
 
-  abbrev pub machineWith : Cell Ticks → List Emitted → R.Unit
-  machineWith c fs = record { cell = c; frames = fs; xs = m .xs; ys = m .ys }
+  abbrev B : ℕ
+  B = sh .bins
 
-  change : (ec : Cell Row) (mc : Cell Ticks) (fs : List Emitted)
+  -- the units with other places, and another block counter
+  abbrev pub engineWith : Cell Row → E.Counter → E.Unit
+  engineWith c k = record { cell = c; counter = k; xs = e .xs; ys = e .ys }
+
+  abbrev pub machineWith : Cell Ticks → M.Counter → List Emitted → R.Unit
+  machineWith c k fs = record { cell = c; counter = k; frames = fs; xs = m .xs; ys = m .ys }
+
+  change : (ec : Cell Row) (mc : Cell Ticks) (ek : E.Counter) (mk : M.Counter) (fs : List Emitted)
       → ((gx gy : List ℕ) → ec ≡ mapCell (row n (gx ++ m .xs) (gy ++ m .ys)) mc)
+      → ek ≡ stored (sh .start) mk
       → Sound B t mc
-      → ((f : ℕ → ℕ) → overAll (tally f) (places (machineWith mc fs)) ≡ overAll (tally f) (places m))
+      → CounterSound (sh .start) (sh .blocks) mk
+      → ((f : ℕ → ℕ) → overAll (tally f) (places (machineWith mc mk fs)) ≡ overAll (tally f) (places m))
       → All (Sent B t) fs
-      → Same n B t (engineWith ec) (machineWith mc fs)
-  change ec mc fs carried sound kept sent =
+      → Same sh t (engineWith ec ek) (machineWith mc mk fs)
+  change ec mc ek mk fs carried is sound among kept sent =
       record {
         cell = carried;
+        counter = is;
         xs = s .xs;
         ys = s .ys;
         good =
@@ -152,26 +177,39 @@ module _ (n B t : ℕ) (e : E.Unit) (m : R.Unit) (s : Same n B t e m) where
               takenX = s .good .takenX;
               takenY = s .good .takenY;
               sound = sound;
+              counter = among;
               once = λ f. kept f ∙ s .good .once f;
               frames = sent;
             };
       }
 
-  pub dump-same : (l : Label)
+  -- the block counter of a dump
+  pub counter-same : (command : ℕ)
+      → E.counted (sh .blocks) command (e .counter)
+      ≡ stored (sh .start) (M.counted (sh .start) (sh .blocks) command (m .counter))
+  counter-same command =
+      rw (s .counter) (sym (counted-same (sh .start) (sh .blocks) (m .counter) (s .good .counter) command))
+
+  pub dump-same : (l : Label) (command : ℕ) → commandOk command ≡ true
       → (eqb (l .command) idle ≡ false → eqb (l .command) discard ≡ false → LabelSound B l)
-      → Same n B t (engineWith ((E.dumpCell n l t (e .cell)) .cell))
-      (machineWith ((M.dumpCell l t (m .cell)) .cell) (m .frames))
+      → Same sh t
+      (engineWith ((E.dumpCell n l t (e .cell)) .cell) (E.counted (sh .blocks) command (e .counter)))
+      (machineWith ((M.dumpCell l t (m .cell)) .cell) (M.counted (sh .start) (sh .blocks) command (m .counter))
+      (m .frames))
   unfolding mapResult
-  dump-same l h =
-      change _ _ (m .frames)
+  dump-same l command ok h =
+      let k : M.Counter = M.counted (sh .start) (sh .blocks) command (m .counter) in
+      change _ _ _ k (m .frames)
       (λ gx gy.
       ap (λ c. (E.dumpCell n l t c) .cell) (s .cell gx gy)
       ∙ sym (ap (λ r. r .cell) (dump-carry n (gx ++ m .xs) (gy ++ m .ys) l t (m .cell))))
+      (counter-same command)
       (dump-sound B t (m .cell) (s .good .sound) l h)
+      (counted-sound (sh .start) (sh .blocks) (m .counter) (s .good .counter) command ok)
       (λ f.
       omega (
         arith,
-        over-places (tally f) (machineWith ((M.dumpCell l t (m .cell)) .cell) (m .frames)),
+        over-places (tally f) (machineWith ((M.dumpCell l t (m .cell)) .cell) k (m .frames)),
         over-places (tally f) m,
         dump-total f (m .cell) (s .good .sound .flat .losses) l t (held-none B t (m .cell) (s .good .sound) f),
       ))
@@ -184,20 +222,22 @@ module _ (n B t : ℕ) (e : E.Unit) (m : R.Unit) (s : Same n B t e m) where
       ∙ sym (ap (λ r. r .answer) (dump-carry n (m .xs) (m .ys) l t (m .cell)))
 
   pub integrate-same :
-      Same n B t (engineWith ((E.integrateCell n B (e .cell)) .cell))
-      (machineWith ((M.integrateCell B (m .cell)) .cell) (m .frames))
+      Same sh t (engineWith ((E.integrateCell n B (e .cell)) .cell) (e .counter))
+      (machineWith ((M.integrateCell B (m .cell)) .cell) (m .counter) (m .frames))
   unfolding mapResult
   integrate-same =
       let l = s .good .sound .flat .label in
-      change _ _ (m .frames)
+      change _ _ _ _ (m .frames)
       (λ gx gy.
       ap (λ c. (E.integrateCell n B c) .cell) (s .cell gx gy)
       ∙ sym (ap (λ r. r .cell) (integrate-carry n (gx ++ m .xs) (gy ++ m .ys) B (m .cell))))
+      (s .counter)
       (integrate-sound B t (m .cell) (s .good .sound))
+      (s .good .counter)
       (λ f.
       omega (
         arith,
-        over-places (tally f) (machineWith ((M.integrateCell B (m .cell)) .cell) (m .frames)),
+        over-places (tally f) (machineWith ((M.integrateCell B (m .cell)) .cell) (m .counter) (m .frames)),
         over-places (tally f) m,
         integrate-total f (m .cell) (s .good .sound .flat .losses) B
             (omega (arith, index-below B _ _ (l .bank) (l .bin), s .good .sound .flat .bins)),
@@ -212,20 +252,22 @@ module _ (n B t : ℕ) (e : E.Unit) (m : R.Unit) (s : Same n B t e m) where
 
   pub empty-same : (bank bin : ℕ) → bank < 2 → bin < B
       → let k = binIndex B bank bin in
-      Same n B t (engineWith (E.emptyBin n k (e .cell)))
-      (machineWith (M.emptyBin k (m .cell))
+      Same sh t (engineWith (E.emptyBin n k (e .cell)) (e .counter))
+      (machineWith (M.emptyBin k (m .cell)) (m .counter)
       (record { bank = bank; bin = bin; content = (M.binAt k (m .cell)) .content } ∷ m .frames))
   empty-same bank bin hk hb =
       let k = binIndex B bank bin in
       let sent : Emitted = record { bank = bank; bin = bin; content = (M.binAt k (m .cell)) .content } in
       let b = s .good .sound .bins k in
-      change _ _ (sent ∷ m .frames)
+      change _ _ _ _ (sent ∷ m .frames)
       (λ gx gy. ap (E.emptyBin n k) (s .cell gx gy) ∙ sym (empty-carry n (gx ++ m .xs) (gy ++ m .ys) k (m .cell)))
+      (s .counter)
       (empty-sound B t (m .cell) (s .good .sound) k)
+      (s .good .counter)
       (λ f.
       omega (
         arith,
-        over-places (tally f) (machineWith (M.emptyBin k (m .cell)) (sent ∷ m .frames)),
+        over-places (tally f) (machineWith (M.emptyBin k (m .cell)) (m .counter) (sent ∷ m .frames)),
         over-places (tally f) m,
         empty-total f (m .cell) (s .good .sound .flat .losses) k
             (omega (arith, index-below B bank bin hk hb, s .good .sound .flat .bins)),

@@ -3,7 +3,7 @@ use Prim.Native.Nat.{ℕ, zero, suc, _+_, _*_, _-_, _≤_, _<_}
 use mathlib.Core.Path.{_≡_, refl, ap, ap₂, _∙_}
 use mathlib.Core.Bool.{Bool, true, false, cond, not, _&&_, _||_}
 use mathlib.Core.List.{List, [], _∷_, _++_}
-use native.Mathlib.Nat.{not-suc-le-zero, le-of-suc-le-suc, suc-mul}
+use native.Mathlib.Nat.{not-suc-le-zero, le-of-suc-le-suc}
 use native.Mathlib.Omega.{arith}
 use lib.Dec.{ltb, leb, eqb}
 use lib.ListN.{length, getD, set, drop, length-set}
@@ -12,7 +12,7 @@ use Rattle.lta_spec.specs.Words.{splice}
 use Rattle.lta_spec.specs.Refusals.{firstOf}
 use Rattle.lta_spec.specs.Shape.{runLimit}
 use Rattle.lta_spec.specs.Place.{lossCount}
-use Rattle.lta_spec.specs.Call.{Call, last, idle, discard, commandOk, dumpLabel, dataBinOk, bankOk, binIndex}
+use Rattle.lta_spec.specs.Call.{Call, last, idle, discard, commandOk, phaseOk, bankOk, binIndex}
 use Rattle.lta_spec.specs.Call.Call.{tick, dump, integrate, emit, reading}
 use Rattle.lta_spec.specs.Answer.Answer.{number, entry}
 use Rattle.lta_spec.specs.Row.{rowSums}
@@ -31,46 +31,49 @@ use Rattle.lta_spec.proofs.TestLaws.{and-both, pass}
 use Rattle.lta_spec.proofs.RowLaws.{numbers, numbers-size, window}
 use Rattle.lta_spec.proofs.SetLaws.{stored-edge, stored-centre, sums-read, lags-read}
 use Rattle.lta_spec.proofs.Carry.{row, mapStamped, mapBin, mapCell, room-carry, bin-carry, loss-carry}
+use Rattle.lta_spec.proofs.BlockLaws.{CounterSound, counted-sound, counter-ok, phase-below}
 use Rattle.lta_spec.proofs.Sound.{LabelSound}
 use Rattle.lta_spec.proofs.Intact.{tick-intact, dump-intact, integrate-intact, emit-intact, read-intact}
 use Rattle.lta_spec.proofs.SameCell.{Same, few, tick-same}
-use Rattle.lta_spec.proofs.SameCell.{dump-same, dump-answer, integrate-same, integrate-answer, empty-same}
+use Rattle.lta_spec.proofs.SameCell.{counter-same, dump-same, dump-answer}
+use Rattle.lta_spec.proofs.SameCell.{integrate-same, integrate-answer, empty-same}
 
 -- all cells
-abbrev pub AllSame : (n B t : ℕ) → List E.Unit → List R.Unit → Type 0
-AllSame n B t [] [] = Prim.Unit {0}
-AllSame n B t [] (m ∷ ms) = ⊥
-AllSame n B t (e ∷ es) [] = ⊥
-AllSame n B t (e ∷ es) (m ∷ ms) = Same n B t e m × AllSame n B t es ms
+abbrev pub AllSame : (sh : Shape) (t : ℕ) → List E.Unit → List R.Unit → Type 0
+AllSame sh t [] [] = Prim.Unit {0}
+AllSame sh t [] (m ∷ ms) = ⊥
+AllSame sh t (e ∷ es) [] = ⊥
+AllSame sh t (e ∷ es) (m ∷ ms) = Same sh t e m × AllSame sh t es ms
 
-pub same-length : (n B t : ℕ) (es : List E.Unit) (ms : List R.Unit) → AllSame n B t es ms → length es ≡ length ms
-same-length n B t [] [] a = refl
-same-length n B t [] (m ∷ ms) a = absurd a
-same-length n B t (e ∷ es) [] a = absurd a
-same-length n B t (e ∷ es) (m ∷ ms) a = ap suc (same-length n B t es ms (a .1))
+pub same-length : (sh : Shape) (t : ℕ) (es : List E.Unit) (ms : List R.Unit) → AllSame sh t es ms
+    → length es ≡ length ms
+same-length sh t [] [] a = refl
+same-length sh t [] (m ∷ ms) a = absurd a
+same-length sh t (e ∷ es) [] a = absurd a
+same-length sh t (e ∷ es) (m ∷ ms) a = ap suc (same-length sh t es ms (a .1))
 
-pub same-at : (n B t : ℕ) (es : List E.Unit) (ms : List R.Unit) (d : E.Unit) (d′ : R.Unit) → AllSame n B t es ms
-    → (c : ℕ) → c < length ms → Same n B t (getD es c d) (getD ms c d′)
-same-at n B t [] [] d d′ a c h = absurd (not-suc-le-zero h)
-same-at n B t [] (m ∷ ms) d d′ a c h = absurd a
-same-at n B t (e ∷ es) [] d d′ a c h = absurd a
-same-at n B t (e ∷ es) (m ∷ ms) d d′ a zero h = a .0
-same-at n B t (e ∷ es) (m ∷ ms) d d′ a (suc c) h = same-at n B t es ms d d′ (a .1) c (le-of-suc-le-suc h)
+pub same-at : (sh : Shape) (t : ℕ) (es : List E.Unit) (ms : List R.Unit) (d : E.Unit) (d′ : R.Unit) → AllSame sh t es ms
+    → (c : ℕ) → c < length ms → Same sh t (getD es c d) (getD ms c d′)
+same-at sh t [] [] d d′ a c h = absurd (not-suc-le-zero h)
+same-at sh t [] (m ∷ ms) d d′ a c h = absurd a
+same-at sh t (e ∷ es) [] d d′ a c h = absurd a
+same-at sh t (e ∷ es) (m ∷ ms) d d′ a zero h = a .0
+same-at sh t (e ∷ es) (m ∷ ms) d d′ a (suc c) h = same-at sh t es ms d d′ (a .1) c (le-of-suc-le-suc h)
 
-same-set : (n B t : ℕ) (es : List E.Unit) (ms : List R.Unit) (c : ℕ) (e′ : E.Unit) (m′ : R.Unit) → AllSame n B t es ms
-    → Same n B t e′ m′ → AllSame n B t (set es c e′) (set ms c m′)
-same-set n B t [] [] c e′ m′ a s = a
-same-set n B t [] (m ∷ ms) c e′ m′ a s = absurd a
-same-set n B t (e ∷ es) [] c e′ m′ a s = absurd a
-same-set n B t (e ∷ es) (m ∷ ms) zero e′ m′ a s = (s, a .1)
-same-set n B t (e ∷ es) (m ∷ ms) (suc c) e′ m′ a s = (a .0, same-set n B t es ms c e′ m′ (a .1) s)
+same-set : (sh : Shape) (t : ℕ) (es : List E.Unit) (ms : List R.Unit) (c : ℕ) (e′ : E.Unit) (m′ : R.Unit)
+    → AllSame sh t es ms → Same sh t e′ m′ → AllSame sh t (set es c e′) (set ms c m′)
+same-set sh t [] [] c e′ m′ a s = a
+same-set sh t [] (m ∷ ms) c e′ m′ a s = absurd a
+same-set sh t (e ∷ es) [] c e′ m′ a s = absurd a
+same-set sh t (e ∷ es) (m ∷ ms) zero e′ m′ a s = (s, a .1)
+same-set sh t (e ∷ es) (m ∷ ms) (suc c) e′ m′ a s = (a .0, same-set sh t es ms c e′ m′ (a .1) s)
 
 -- the runs
 pub record SameRun (sh : Shape) (e : W.Run) (m : R.Run) : Type 0 where
   pub t : e .t ≡ m .t
   pub limit : m .t ≤ runLimit
   pub cells : length (m .units) ≡ sh .cells
-  pub units : AllSame (sh .lags) (sh .bins) (m .t) (e .units) (m .units)
+  pub units : AllSame sh (m .t) (e .units) (m .units)
 
 -- what an accepted call leaves
 pub record SameDone (sh : Shape) (e : S.Done) (m : R.Step) : Type 0 where
@@ -93,7 +96,7 @@ both : {a b : Bool} → a ≡ true → b ≡ true → a && b ≡ true
 both p q = rw (p, q)
 
 module _ (sh : Shape) (wide : 2 ≤ sh .lags) (t : ℕ) (es : List E.Unit) (ms : List R.Unit) (limit : t ≤ runLimit)
-    (cells : length ms ≡ sh .cells) (units : AllSame (sh .lags) (sh .bins) t es ms) where
+    (cells : length ms ≡ sh .cells) (units : AllSame sh t es ms) where
   abbrev e : W.Run
   e = record { t = t; units = es }
 
@@ -101,15 +104,15 @@ module _ (sh : Shape) (wide : 2 ≤ sh .lags) (t : ℕ) (es : List E.Unit) (ms :
   m = record { t = t; units = ms }
 
   -- a cell that there is
-  at : (c : ℕ) → ltb c (sh .cells) ≡ true → Same (sh .lags) (sh .bins) t (S.unitAt sh c e) (R.unitAt sh c m)
-  at c h = same-at _ _ t es ms _ _ units c (omega (arith, ltb-true c (sh .cells) h))
+  at : (c : ℕ) → ltb c (sh .cells) ≡ true → Same sh t (S.unitAt sh c e) (R.unitAt sh c m)
+  at c h = same-at sh t es ms _ _ units c (omega (arith, ltb-true c (sh .cells) h))
 
   -- what the engine's tests of 11 say of a related cell
   module _ (c : ℕ) (h : ltb c (sh .cells) ≡ true) where
     abbrev u : R.Unit
     u = R.unitAt sh c m
 
-    same : Same (sh .lags) (sh .bins) t (S.unitAt sh c e) u
+    same : Same sh t (S.unitAt sh c e) u
     same = at c h
 
     cell-is : S.cellAt sh c e ≡ mapCell (row (sh .lags) (u .xs) (u .ys)) (u .cell)
@@ -119,11 +122,14 @@ module _ (sh : Shape) (wide : 2 ≤ sh .lags) (t : ℕ) (es : List E.Unit) (ms :
     t-ok = le-leb t runLimit limit
 
     dump-passes : (command : ℕ)
-        → leb t runLimit && D.dumpSound (sh .lags) (sh .bins) t command (S.cellAt sh c e) ≡ true
+        → leb t runLimit && D.dumpUnitSound (sh .lags) (sh .bins) (sh .blocks) t command (S.unitAt sh c e) ≡ true
+    unfolding D.dumpUnitSound
     dump-passes command =
         both t-ok
+        (both {a = D.counterOk (sh .blocks) ((S.unitAt sh c e) .counter)}
+        (rw (same .counter) (counter-ok (sh .start) (sh .blocks) (u .counter) (same .good .counter)))
         (rw cell-is
-        (dump-intact _ _ t (u .xs) (u .ys) (u .cell) (same .good .sound) (few _ t u (same .good)) limit command))
+        (dump-intact _ _ t (u .xs) (u .ys) (u .cell) (same .good .sound) (few _ t u (same .good)) limit command)))
 
     integrate-passes : leb t runLimit && D.integrateSound (sh .lags) (sh .bins) t (S.cellAt sh c e) ≡ true
     integrate-passes =
@@ -165,7 +171,7 @@ module _ (sh : Shape) (wide : 2 ≤ sh .lags) (t : ℕ) (es : List E.Unit) (ms :
         ap (λ z. E.lossAt (sh .lags) i (z .losses)) cell-is ∙ loss-carry (sh .lags) (u .xs) (u .ys) i (u .cell)
 
 units-sound : (sh : Shape) (t : ℕ) → t < runLimit → (es : List E.Unit) (ms : List R.Unit)
-    → AllSame (sh .lags) (sh .bins) t es ms → S.unitsSound sh t es ≡ true
+    → AllSame sh t es ms → S.unitsSound sh t es ≡ true
 unfolding S.unitsSound
 units-sound sh t l [] [] a = refl
 units-sound sh t l [] (m ∷ ms) a = absurd a
@@ -174,16 +180,16 @@ units-sound sh t l (e ∷ es) (m ∷ ms) a =
     let s = a .0 in
     let n = sh .lags in
     let c = mapCell (row n (m .xs) (m .ys)) (m .cell) in
-    let q : e ≡ record { cell = c; xs = window n (m .xs); ys = window n (m .ys) } =
-    λ i. record { cell = s .cell [] [] i; xs = s .xs i; ys = s .ys i } in
+    let q : e ≡ record { cell = c; counter = e .counter; xs = window n (m .xs); ys = window n (m .ys) } =
+    λ i. record { cell = s .cell [] [] i; counter = e .counter; xs = s .xs i; ys = s .ys i } in
     both
     (ap (D.tickSound (sh .lags) t) q
     ∙ tick-intact (sh .lags) (sh .bins) t (m .xs) (m .ys) (m .cell) (s .good .sound) (few _ t m (s .good)) (omega arith)
-    (m .xs) (m .ys) l)
+    (e .counter) (m .xs) (m .ys) l)
     (units-sound sh t l es ms (a .1))
 
 module _ (sh : Shape) (wide : 2 ≤ sh .lags) (t : ℕ) (es : List E.Unit) (ms : List R.Unit) (limit : t ≤ runLimit)
-    (cells : length ms ≡ sh .cells) (units : AllSame (sh .lags) (sh .bins) t es ms) where
+    (cells : length ms ≡ sh .cells) (units : AllSame sh t es ms) where
   -- the engine's verdict is the machine's
   pub verdict-same : (call : Call)
       → firstOf (S.callTests sh call (record { t = t; units = es })) ≡ firstOf
@@ -195,12 +201,12 @@ module _ (sh : Shape) (wide : 2 ≤ sh .lags) (t : ℕ) (es : List E.Unit) (ms :
       (λ h.
       passing _ _ _
       (both (le-leb t runLimit limit) (units-sound sh t (tick-verdict sh t limit h) es ms units))))
-  verdict-same (dump c command bank phase block) =
+  verdict-same (dump c command bank phase) =
       same-test (ltb c (sh .cells)) _ _ _
       (λ h.
       same-test (commandOk command) _ _ _
       (λ _.
-      same-test (bankOk bank && dataBinOk sh phase block) _ _ _
+      same-test (bankOk bank && phaseOk sh phase) _ _ _
       (λ _. passing _ _ _ (dump-passes sh wide t es ms limit cells units c h command))))
   verdict-same (integrate c) =
       same-test (ltb c (sh .cells)) _ _ _
@@ -234,33 +240,28 @@ command-kept c ok p q = by-test (leb c last) refl (rw (p, q) at ok)
     by-test true e h = leb-true c last e
     by-test false e h = let z : _≡_ {A = ℕ} 0 1 = cc in absurd (omega arith)
 
-label-kept : (sh : Shape) (command bank phase block : ℕ) → commandOk command ≡ true
-    → bankOk bank && dataBinOk sh phase block ≡ true → eqb command idle ≡ false → eqb command discard ≡ false
-    → LabelSound (sh .bins) (dumpLabel sh command bank phase block)
-unfolding dataBinOk
-label-kept sh command bank phase block ok rule p q =
+label-kept : (sh : Shape) (command bank phase : ℕ) (k : M.Counter) → commandOk command ≡ true
+    → bankOk bank && phaseOk sh phase ≡ true → CounterSound (sh .start) (sh .blocks) k
+    → eqb command idle ≡ false → eqb command discard ≡ false
+    → LabelSound (sh .bins) (M.dumpLabel (sh .start) (sh .blocks) command bank phase (k .block))
+label-kept sh command bank phase k ok rule among p q =
     let a = and-both (bankOk bank) _ rule in
-    let b = and-both (leb (sh .start) block) _ (a .1) in
-    let c = and-both (ltb block (sh .start + sh .blocks)) _ (b .1) in
-    let d = and-both (leb (suc phase * sh .blocks) (sh .bins)) true (c .1) in
-    let whole : phase * sh .blocks + sh .blocks ≤ sh .bins =
-    omega (arith, suc-mul phase (sh .blocks), leb-true (suc phase * sh .blocks) (sh .bins) (d .0)) in
     record {
       command = command-kept command ok p q;
       bank = ltb-true bank 2 (a .0);
-      bin = omega (arith, leb-true (sh .start) block (b .0), ltb-true block (sh .start + sh .blocks) (c .0));
+      bin = phase-below sh phase (k .block - sh .start) (a .1) (omega (arith, among .low, among .high));
     }
 
 -- a tick, all cells
 tick-units : (sh : Shape) → 2 ≤ sh .lags → (t : ℕ) (samples : List ℕ) (es : List E.Unit) (ms : List R.Unit)
-    → AllSame (sh .lags) (sh .bins) t es ms
-    → AllSame (sh .lags) (sh .bins) (suc t) (S.tickUnits sh samples es) (R.tickUnits t samples ms)
+    → AllSame sh t es ms
+    → AllSame sh (suc t) (S.tickUnits sh samples es) (R.tickUnits t samples ms)
 unfolding S.tickUnits R.tickUnits
 tick-units sh w t samples [] [] a = a
 tick-units sh w t samples [] (m ∷ ms) a = absurd a
 tick-units sh w t samples (e ∷ es) [] a = absurd a
 tick-units sh w t samples (e ∷ es) (m ∷ ms) a = (
-  tick-same _ _ t w (getD samples 0 0) (getD samples 1 0) e m (a .0),
+  tick-same sh t w (getD samples 0 0) (getD samples 1 0) e m (a .0),
   tick-units sh w t (drop 2 samples) es ms
       (a .1),
 )
@@ -270,7 +271,7 @@ unfolding R.tickUnits
 tick-length t samples [] = refl
 tick-length t samples (m ∷ ms) = ap suc (tick-length t (drop 2 samples) ms)
 
-held-off : (sh : Shape) (t : ℕ) (es : List E.Unit) (ms : List R.Unit) → AllSame (sh .lags) (sh .bins) t es ms
+held-off : (sh : Shape) (t : ℕ) (es : List E.Unit) (ms : List R.Unit) → AllSame sh t es ms
     → S.heldOff sh es ≡ R.heldOff ms
 unfolding S.heldOff R.heldOff
 held-off sh t [] [] a = refl
@@ -291,16 +292,16 @@ set-frame sh c xs ys e =
 
 -- an accepted call
 module _ (sh : Shape) (wide : 2 ≤ sh .lags) (t : ℕ) (es : List E.Unit) (ms : List R.Unit) (limit : t ≤ runLimit)
-    (cells : length ms ≡ sh .cells) (units : AllSame (sh .lags) (sh .bins) t es ms) where
+    (cells : length ms ≡ sh .cells) (units : AllSame sh t es ms) where
   -- cell c becomes e′ and m′
-  put-same : (c : ℕ) (e′ : E.Unit) (m′ : R.Unit) → Same (sh .lags) (sh .bins) t e′ m′
+  put-same : (c : ℕ) (e′ : E.Unit) (m′ : R.Unit) → Same sh t e′ m′
       → SameRun sh (record { t = t; units = set es c e′ }) (record { t = t; units = set ms c m′ })
   put-same c e′ m′ s =
       record {
         t = refl;
         limit = limit;
         cells = length-set ms c m′ ∙ cells;
-        units = same-set _ _ t es ms c e′ m′ units s;
+        units = same-set sh t es ms c e′ m′ units s;
       }
 
   -- the frame of a bin: its row's bytes are its set's, whatever bytes come later
@@ -319,7 +320,7 @@ module _ (sh : Shape) (wide : 2 ≤ sh .lags) (t : ℕ) (es : List E.Unit) (ms :
   pub accepted-same : (call : Call) → firstOf (R.callTests sh (record { t = t; units = ms }) call) ≡ Accepted
       → SameDone sh (S.accepted sh call (record { t = t; units = es }))
       (R.accepted sh call (record { t = t; units = ms }))
-  unfolding S.accepted R.accepted S.withCell R.withCell R.withFrame R.emitted
+  unfolding S.accepted R.accepted S.withDump R.withDump S.withCell R.withCell R.withFrame R.emitted
   accepted-same (tick samples) v =
       let a = pass (eqb (length samples) (2 * sh .cells)) _ _ v in
       let b = pass (not (eqb t runLimit)) _ _ (a .1) in
@@ -334,24 +335,31 @@ module _ (sh : Shape) (wide : 2 ≤ sh .lags) (t : ℕ) (es : List E.Unit) (ms :
               units = tick-units sh wide t samples es ms units;
             };
       }
-  accepted-same (dump c command bank phase block) v =
+  accepted-same (dump c command bank phase) v =
       let a = pass (ltb c (sh .cells)) _ _ v in
       let b = pass (commandOk command) _ _ (a .1) in
-      let d = pass (bankOk bank && dataBinOk sh phase block) _ _ (b .1) in
+      let d = pass (bankOk bank && phaseOk sh phase) _ _ (b .1) in
       let s = at sh wide t es ms limit cells units c (a .0) in
-      let l = dumpLabel sh command bank phase block in
-      record {
-        answer = ap number (dump-answer _ _ t _ _ s l);
+      let u = R.unitAt sh c (record { t = t; units = ms }) in
+      let k : M.Counter = M.counted (sh .start) (sh .blocks) command (u .counter) in
+      let l = M.dumpLabel (sh .start) (sh .blocks) command bank phase (k .block) in
+      let among = counted-sound (sh .start) (sh .blocks) (u .counter) (s .good .counter) command (b .0) in
+      rw (counter-same sh t _ _ s command)
+      (record {
+        answer = ap number (dump-answer sh t _ _ s l);
         out = refl;
-        run = put-same c _ _ (dump-same _ _ t _ _ s l (label-kept sh command bank phase block (b .0) (d .0)));
-      }
+        run =
+            put-same c _ _
+            (rw (← counter-same sh t _ _ s command)
+            (dump-same sh t _ _ s l command (b .0) (label-kept sh command bank phase k (b .0) (d .0) among)));
+      })
   accepted-same (integrate c) v =
       let a = pass (ltb c (sh .cells)) _ _ v in
       let s = at sh wide t es ms limit cells units c (a .0) in
       record {
-        answer = ap number (integrate-answer _ _ t _ _ s);
+        answer = ap number (integrate-answer sh t _ _ s);
         out = refl;
-        run = put-same c _ _ (integrate-same _ _ t _ _ s);
+        run = put-same c _ _ (integrate-same sh t _ _ s);
       }
   accepted-same (emit c bank bin out) v =
       let a = pass (ltb c (sh .cells)) _ _ v in
@@ -363,7 +371,7 @@ module _ (sh : Shape) (wide : 2 ≤ sh .lags) (t : ℕ) (es : List E.Unit) (ms :
         out = ap (splice out 0) (frame-same [] [] c bank bin (a .0));
         run =
             put-same c _ _
-            (empty-same _ _ t _ _ s bank bin (ltb-true bank 2 (d .0)) (ltb-true bin (sh .bins) (d .1)));
+            (empty-same sh t _ _ s bank bin (ltb-true bank 2 (d .0)) (ltb-true bin (sh .bins) (d .1)));
       }
   accepted-same (reading c lag loss) v =
       let a = pass (ltb c (sh .cells)) _ _ v in

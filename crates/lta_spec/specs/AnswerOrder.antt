@@ -14,22 +14,28 @@ use Rattle.lta_spec.specs.FrameCalls.{readAnswer, writeAnswer, normalAns
 use Rattle.lta_spec.specs.Call.{Call, emittedFields}
 use Rattle.lta_spec.specs.Call.Call.{tick, dump, integrate, emit, reading}
 use Rattle.lta_spec.specs.Answer.{Answer}
-use Rattle.lta_spec.specs.Answer.Answer.{refused}
-use Rattle.lta_spec.specs.Engine.{Row, freshUnit}
+use Rattle.lta_spec.specs.Answer.Answer.{refused, number}
+use Rattle.lta_spec.specs.Engine.{Row, Counter, freshUnit}
 use Rattle.lta_spec.specs.Memory.{runL}
 use Rattle.lta_spec.specs.Step.{step}
 use Rattle.lta_spec.specs.Edges.{scriptShape, scriptFrame}
 use Rattle.lta_spec.specs.declared.Fields.{Fields}
 
--- a fresh run of the script's shape but for t, Held's flag and the newest entry of X's register
-abbrev pub memWith : (t flag entry : ℕ) → List ℕ
-memWith t flag entry =
+-- a fresh run of the script's shape but for t, Held's flag, the newest entry of X's register and the block counter
+abbrev pub memCounted : Counter → (t flag entry : ℕ) → List ℕ
+memCounted counter t flag entry =
     let u = freshUnit (scriptShape .lags) (scriptShape .bins) in
     let c = u .cell in
     let held : Held Row = record { occupied = flag; label = c .held .label; content = c .held .content } in
     let cell : Cell Row = record { opened = c .opened; held = held; bins = c .bins; losses = c .losses } in
     (runL scriptShape) .put
-    (record { t = t; units = record { cell = cell; xs = entry ∷ 0 ∷ []; ys = u .ys } ∷ [] })
+    (record { t = t; units = record { cell = cell; counter = counter; xs = entry ∷ 0 ∷ []; ys = u .ys } ∷ [] })
+
+abbrev pub counterWith : (offset lastCode : ℕ) → Counter
+counterWith offset code = record { offset = offset; lastCode = code }
+
+abbrev pub memWith : (t flag entry : ℕ) → List ℕ
+memWith = memCounted (counterWith 0 0)
 
 -- what each call answers on the same work memory
 abbrev pub returned : (mem : List ℕ) → List Call → List Answer
@@ -52,10 +58,21 @@ pub record Orders : Type 0 where
   pub sampler-last : returned (memWith 0 0 256) (tick (0 ∷ []) ∷ tick (0 ∷ 0 ∷ []) ∷ []) ≡ refusals (3 ∷ 11 ∷ [])
   -- "Order 5, 6, 7, 11, for every command": t is too high; then a flag of 2
   pub commander : returned (memWith (runLimit + 1) 0 0)
-      (dump 1 3 2 0 0 ∷ dump 0 3 2 0 0 ∷ dump 0 2 2 0 0 ∷ dump 0 4 2 0 0 ∷ dump 0 7 2 0 0 ∷ [])
+      (dump 1 3 2 0 ∷ dump 0 3 2 0 ∷ dump 0 2 2 0 ∷ dump 0 4 2 0 ∷ dump 0 7 2 0 ∷ [])
       ≡ refusals (5 ∷ 6 ∷ 7 ∷ 7 ∷ 7 ∷ [])
-  pub commander-last : returned (memWith 0 2 0) (dump 0 2 0 0 0 ∷ dump 0 4 0 0 0 ∷ dump 0 7 0 0 0 ∷ [])
+  pub commander-last : returned (memWith 0 2 0) (dump 0 2 0 0 ∷ dump 0 4 0 0 ∷ dump 0 7 0 0 ∷ [])
       ≡ refusals (11 ∷ 11 ∷ 11 ∷ [])
+  -- request 2026-01, M=1: a block past the last one, a last command that is none of 000, 001, 010 and 100
+  pub counter-block : returned (memCounted (counterWith 1 0) 0 0 0)
+      (dump 0 3 2 0 ∷ dump 0 2 2 0 ∷ dump 0 2 0 2 ∷ dump 0 2 0 0 ∷ dump 0 4 0 0 ∷ dump 0 7 0 0 ∷ [])
+      ≡ refusals (6 ∷ 7 ∷ 7 ∷ 11 ∷ 11 ∷ 11 ∷ [])
+  pub counter-command : map (λ code. (step scriptShape (dump 0 2 0 1) (memCounted (counterWith 0 code) 0 0 0)) .answer)
+      (0 ∷ 1 ∷ 2 ∷ 3 ∷ 4 ∷ 5 ∷ 6 ∷ 8 ∷ [])
+      ≡ number 0 ∷ number 0 ∷ number 0 ∷ number 0 ∷ refused 11 ∷ number 0 ∷ refused 11 ∷ refused 11 ∷ []
+  -- no other call tests them
+  pub counter-others : returned (memCounted (counterWith 1 4) 0 0 0)
+      (tick (0 ∷ 0 ∷ []) ∷ integrate 0 ∷ emit 0 0 0 [] ∷ [])
+      ≡ number 0 ∷ refused 8 ∷ refused 9 ∷ []
   -- "Order 5, 11, then 8"
   pub integrator : returned (memWith (runLimit + 1) 0 0) (integrate 1 ∷ integrate 0 ∷ []) ≡ refusals (5 ∷ 11 ∷ [])
   pub integrator-last : returned (memWith 0 2 0) (integrate 0 ∷ []) ≡ refusals (11 ∷ [])

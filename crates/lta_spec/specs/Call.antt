@@ -1,10 +1,8 @@
 -- The calls on a run, and the rules on their arguments.
-use Prim.Native.Nat.{ℕ, suc, _+_, _*_, _-_, _/_, _%_}
+use Prim.Native.Nat.{ℕ, suc, _+_, _*_, _/_, _%_}
 use mathlib.Core.Bool.{Bool, _||_}
-use mathlib.Core.List.{List, [], _∷_}
+use mathlib.Core.List.{List, []}
 use lib.Dec.{leb, ltb, eqb}
-use Rattle.lta_spec.specs.Words.{all}
-use Rattle.lta_spec.specs.Place.{Label}
 use Rattle.lta_spec.specs.Frame.{accumulated}
 use Rattle.lta_spec.specs.declared.Shape.{Shape}
 use Rattle.lta_spec.specs.declared.Fields.{Fields}
@@ -12,7 +10,7 @@ use Rattle.lta_spec.specs.declared.Fields.{Fields}
 -- a call with its own arguments; shape and work memory stand beside it
 pub data Call : Type 0 where
   tick : (samples : List ℕ) → Call
-  dump : (cell command bank phase block : ℕ) → Call
+  dump : (cell command bank phase : ℕ) → Call
   integrate : (cell : ℕ) → Call
   emit : (cell bank bin : ℕ) (out : List ℕ) → Call
   reading : (cell lag loss : ℕ) → Call
@@ -20,7 +18,7 @@ pub data Call : Type 0 where
 -- the frame buffer that a call is lent
 abbrev pub lentTo : Call → List ℕ
 lentTo (tick samples) = []
-lentTo (dump cell command bank phase block) = []
+lentTo (dump cell command bank phase) = []
 lentTo (integrate cell) = []
 lentTo (emit cell bank bin out) = out
 lentTo (reading cell lag loss) = []
@@ -45,22 +43,9 @@ idle = 7
 unfoldable pub commandOk : ℕ → Bool
 commandOk c = leb c last || (eqb c discard || eqb c idle)
 
--- "Data bin = phase × M + (block - S) (memo figure 4-41)"
-abbrev pub dataBin : Shape → (phase block : ℕ) → ℕ
-dataBin sh phase block = phase * sh .blocks + (block - sh .start)
-
--- "Accepted only if S ≤ block < S + M and (phase + 1) × M ≤ B"
-unfoldable pub dataBinOk : Shape → (phase block : ℕ) → Bool
-dataBinOk sh phase block =
-    all
-    (leb (sh .start) block
-    ∷ ltb block (sh .start + sh .blocks)
-    ∷ leb (suc phase * sh .blocks) (sh .bins)
-    ∷ [])
-
--- the label that a dump gives what it holds
-abbrev pub dumpLabel : Shape → (command bank phase block : ℕ) → Label
-dumpLabel sh command bank phase block = record { command = command; bank = bank; bin = dataBin sh phase block }
+-- "Accepted only if .. (phase + 1) × M ≤ B": the data bins of a phase, one for each block, are all there
+unfoldable pub phaseOk : Shape → (phase : ℕ) → Bool
+phaseOk sh phase = leb (suc phase * sh .blocks) (sh .bins)
 
 abbrev pub bankOk : ℕ → Bool
 bankOk bank = ltb bank 2

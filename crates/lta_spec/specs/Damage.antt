@@ -1,5 +1,5 @@
 -- Document 01, "Whoever writes in work memory": refusal 11, with the parts that each call tests.
-use Prim.Native.Nat.{ℕ, _+_}
+use Prim.Native.Nat.{ℕ, suc, _+_}
 use mathlib.Core.Bool.{Bool, true, false, cond, _&&_, _||_}
 use mathlib.Core.List.{List}
 use lib.Dec.{leb, ltb, eqb}
@@ -9,7 +9,7 @@ use Rattle.lta_spec.specs.Place.{Label, Stamped, Held, Bin, Cell, ready}
 use Rattle.lta_spec.specs.Place.{ordered, overrun, full, replaced, tooWide, holdoff}
 use Rattle.lta_spec.specs.Call.{last, discard, idle, bankOk}
 use Rattle.lta_spec.specs.Row.{ticksOf, rowOk, entryOk}
-use Rattle.lta_spec.specs.Engine.{Row, Unit, lossAt, binAt, hasRoom, isReplacing, isTooWide, heldBin}
+use Rattle.lta_spec.specs.Engine.{Row, Counter, Unit, lossAt, binAt, hasRoom, isReplacing, isTooWide, heldBin}
 
 -- a row within its limits, and "a stamp passes t"
 abbrev pub contentOk : (limit t : ℕ) → Stamped Row → Bool
@@ -41,6 +41,10 @@ lossesOk ls = every (rowOk runLimit) ls
 abbrev pub registersOk : Unit → Bool
 registersOk u = every entryOk (u .xs) && every entryOk (u .ys)
 
+-- request 2026-01, of a dump alone: "A stored block outside S to S + M - 1 or an unknown last command"
+unfoldable pub counterOk : (blocks : ℕ) → Counter → Bool
+counterOk blocks k = ltb (k .offset) blocks && (leb (k .lastCode) (suc last) || eqb (k .lastCode) (suc discard))
+
 -- so many ticks more do not "take a loss past 2,147,483,648 ticks"
 abbrev pub lossHolds : (n i more : ℕ) → Cell Row → Bool
 lossHolds n i more c = leb (ticksOf (lossAt n i (c .losses)) + more) runLimit
@@ -67,6 +71,10 @@ dumpParts bins t c =
 unfoldable pub dumpSound : (n bins t command : ℕ) → Cell Row → Bool
 dumpSound n bins t command c =
     dumpParts bins t c && dumpHolds n (eqb command idle) (eqb command discard) (eqb (c .held .occupied) 1) c
+
+-- with the cell's block counter
+unfoldable pub dumpUnitSound : (n bins blocks t command : ℕ) → Unit → Bool
+dumpUnitSound n bins blocks t command u = counterOk blocks (u .counter) && dumpSound n bins t command (u .cell)
 
 unfoldable pub integrateHolds : (n : ℕ) (isReady replaces isWide : Bool) → Bin Row → Cell Row → Bool
 integrateHolds n true r w b c = lossHolds n full (ticksOf (c .held .content .members)) c

@@ -17,7 +17,8 @@ use Rattle.lta_spec.specs.Call.{Call}
 use Rattle.lta_spec.specs.Answer.{Answer}
 use Rattle.lta_spec.specs.Call.Call.{tick, dump, integrate, emit, reading}
 use Rattle.lta_spec.specs.Answer.Answer.{refused, number, entry, fields, normal, noData}
-use Rattle.lta_spec.specs.Machine.{Ticks, binAt}
+use Rattle.lta_spec.specs.Machine.{Ticks, LastCommand, binAt}
+use Rattle.lta_spec.specs.Machine.LastCommand.{none, was}
 use Rattle.lta_spec.specs.Numbers.{
   Emitted,
   sumOver,
@@ -126,8 +127,13 @@ pub record EqualStamped (n : ℕ) (xs ys : List ℕ) (e : Stamped Row) (m : Stam
   pub numbers : Equal n xs ys (e .members) (m .members)
   pub stamp : e .stamp ≡ m .stamp
 
--- all places of one cell, with Held's flag and label and the bins' states
-pub record EqualCell (n : ℕ) (e : E.Unit) (m : M.Unit) : Type 0 where
+-- the last command that a stored word is
+abbrev pub lastOf : (code : ℕ) → LastCommand
+lastOf zero = none
+lastOf (suc command) = was command
+
+-- all places of one cell, with Held's flag and label and the bins' states, and its block counter
+pub record EqualCell (n start : ℕ) (e : E.Unit) (m : M.Unit) : Type 0 where
   pub opened : EqualStamped n (m .xs) (m .ys) (e .cell .opened) (m .cell .opened)
   pub held : EqualStamped n (m .xs) (m .ys) (e .cell .held .content) (m .cell .held .content)
   pub occupied : e .cell .held .occupied ≡ m .cell .held .occupied
@@ -135,6 +141,8 @@ pub record EqualCell (n : ℕ) (e : E.Unit) (m : M.Unit) : Type 0 where
   pub bins : (k : ℕ) → EqualStamped n (m .xs) (m .ys) ((E.binAt n k (e .cell)) .content) ((binAt k (m .cell)) .content)
   pub states : (k : ℕ) → (E.binAt n k (e .cell)) .state ≡ (binAt k (m .cell)) .state
   pub losses : (i : ℕ) → Equal n (m .xs) (m .ys) (E.lossAt n i (e .cell .losses)) (getD (m .cell .losses) i [])
+  pub block : start + e .counter .offset ≡ m .counter .block
+  pub lastCommand : lastOf (e .counter .lastCode) ≡ m .counter .lastCommand
 
 -- "a place is a cell's Open, Held, one bin, one loss or one emitted frame": the sets of all places of a cell
 abbrev pub places : M.Unit → List Ticks
@@ -179,7 +187,7 @@ frameIf false n a out = []
 abbrev pub frameReturned : (n c : ℕ) → Listed → Returned → List (List ℕ)
 frameReturned n c (onRun (emit d bank bin out)) t = frameIf (eqb d c) n (t .answer) (t .out)
 frameReturned n c (onRun (tick samples)) t = []
-frameReturned n c (onRun (dump d command bank phase block)) t = []
+frameReturned n c (onRun (dump d command bank phase)) t = []
 frameReturned n c (onRun (integrate d)) t = []
 frameReturned n c (onRun (reading d lag loss)) t = []
 frameReturned n c (onOther shape call given) t = []
@@ -255,9 +263,10 @@ pub record Demand3 (sh : Shape) (cs : List Listed) : Type 0 where
   -- work memory keeps its length, and t is the machine's
   pub words : length (memAfter sh cs) ≡ memoryWords sh
   pub time : ((runL sh) .get (memAfter sh cs)) .t ≡ (machineAfter sh cs) .t
-  -- every place of every cell: the numbers in work memory are those of the machine's set
+  -- every place of every cell: the numbers in work memory are those of the machine's set; and its block counter
   pub cells : (c : ℕ) → c < sh .cells
-      → EqualCell (sh .lags) (S.unitAt sh c ((runL sh) .get (memAfter sh cs))) (M.unitAt sh c (machineAfter sh cs))
+      → EqualCell (sh .lags) (sh .start) (S.unitAt sh c ((runL sh) .get (memAfter sh cs)))
+      (M.unitAt sh c (machineAfter sh cs))
   -- every emitted frame: its bytes as its call left them are those of its set's numbers
   pub frames : (c : ℕ) → c < sh .cells
       → framesReturned (sh .lags) c cs (engineReturns sh cs (freshMem sh))

@@ -1,5 +1,5 @@
 -- Document 01, "Edges of the rules": the rows marked P, as one statement about the definitions, with rows that a
--- wrong sign, order or number would break. proofs/Edges.antt proves it.
+-- wrong sign, order or number would break, and those of the requests. proofs/Edges.antt proves it.
 use Prim.Native.Nat.{ℕ, _+_, _-_, _%_, _<_}
 use mathlib.Core.Path.{_≡_}
 use mathlib.Core.Bool.{true, false}
@@ -14,7 +14,7 @@ use Rattle.lta_spec.specs.Frame.{mark, accumulated, frameLength}
 use Rattle.lta_spec.specs.Tick.{fromByte, xDelay, yDelay, weight, inPhase, quadrature}
 use Rattle.lta_spec.specs.Place.{Label, Bin, Cell, free, filling}
 use Rattle.lta_spec.specs.Place.{ordered, overrun, full, replaced, tooWide, holdoff}
-use Rattle.lta_spec.specs.Call.{add, dataBin, dataBinOk, binIndex}
+use Rattle.lta_spec.specs.Call.{add, phaseOk, binIndex}
 use Rattle.lta_spec.specs.Call.Call.{tick, dump, integrate, emit}
 use Rattle.lta_spec.specs.FrameCalls.{quotient, normalAnswer}
 use Rattle.lta_spec.specs.Answer.Answer.{refused, number, normal}
@@ -27,6 +27,7 @@ use Rattle.lta_spec.specs.Row.{ticksOf}
 use Rattle.lta_spec.specs.Demand.{Listed, Returned, machineReturns, engineReturns, freshMem}
 use Rattle.lta_spec.specs.Demand.Listed.{onRun}
 use Rattle.lta_spec.specs.Step.{Foreseen}
+use Rattle.lta_spec.specs.BlockRows.{BlockRows}
 use Rattle.lta_spec.specs.WorkedRun.{answerOnly, minus, workedShape, workedRun, workedFrame, callsOf, returnedBy}
 use Rattle.lta_spec.specs.declared.Shape.{Shape}
 use Rattle.lta_spec.specs.declared.Refusal.{Refusal}
@@ -39,13 +40,14 @@ use Rattle.lta_spec.specs.declared.Loss.the-variants.{Ordered, Overrun, 
 abbrev pub scriptShape : Shape
 scriptShape = record { cells = 1; lags = 2; bins = 2; blocks = 1; start = 0; rate = 4; second = 0 }
 
--- "TK 02 03, TK 01 0F, TK 08 02 (hexadecimal), DP 0 2 0 0 0, IN 0, EM 0 0 0, IN 0"
+-- "TK 02 03, TK 01 0F, TK 08 02 (hexadecimal), DP 0 2 0 0 0, IN 0, EM 0 0 0, IN 0", the DP without its last number by
+-- request 2026-01
 abbrev pub script : List Listed
 script =
     onRun (tick (2 ∷ 3 ∷ []))
     ∷ onRun (tick (1 ∷ 15 ∷ []))
     ∷ onRun (tick (8 ∷ 2 ∷ []))
-    ∷ onRun (dump 0 2 0 0 0)
+    ∷ onRun (dump 0 2 0 0)
     ∷ onRun (integrate 0)
     ∷ onRun (emit 0 0 0 (replicate 50 0))
     ∷ onRun (integrate 0)
@@ -118,7 +120,7 @@ pub record Edges : Type 0 where
   -- the worked run; the mark, W0 and W1 of its frame as bytes
   pub worked-machine : machineReturns workedShape (callsOf workedRun) (R.start workedShape) ≡ returnedBy workedRun
   pub worked-engine : engineReturns workedShape (callsOf workedRun) (freshMem workedShape) ≡ returnedBy workedRun
-  pub worked-bytes : take 10 workedFrame ≡ 0x4C ∷ 0x54 ∷ 0x02 ∷ 0x08 ∷ 0 ∷ 0 ∷ 0 ∷ 0x16 ∷ 0x05 ∷ 0x80 ∷ []
+  pub worked-bytes : take 10 workedFrame ≡ 0x4C ∷ 0x54 ∷ 0x02 ∷ 0x08 ∷ 0 ∷ 0 ∷ 0 ∷ 0x15 ∷ 0x04 ∷ 0x80 ∷ []
   -- P2 N=2 lag 0: delays 0 and 1; lag 1: 1 and 1
   pub p2-lag0 : (xDelay 0 ≡ 0) × (yDelay 2 0 ≡ 1)
   pub p2-lag1 : (xDelay 1 ≡ 1) × (yDelay 2 1 ≡ 1)
@@ -131,14 +133,13 @@ pub record Edges : Type 0 where
   pub p3-one-ahead : Adds 0x03 0xFB (minus 30) (minus 15)
   pub p3-one-behind : Adds 0xF3 0x0B (minus 30) (pos 15)
   -- P4 M=16, B=1,000, phase 61 fits; P5 phase 62, offset 0, is refused though 992 < 1,000
-  pub p4 : dataBinOk (blockShape 16 1000) 61 15 ≡ true
-  pub p5 : (dataBinOk (blockShape 16 1000) 62 0 ≡ false) × (dataBin (blockShape 16 1000) 62 0 ≡ 992)
+  pub p4 : phaseOk (blockShape 16 1000) 61 ≡ true
+  pub p5 : (phaseOk (blockShape 16 1000) 62 ≡ false) × (M.dataBin 0 16 62 0 ≡ 992)
   -- P6 M=4, B=1,000: phase 249 fits; P7 250 doesn't
-  pub p6 : dataBinOk (blockShape 4 1000) 249 3 ≡ true
-  pub p7 : dataBinOk (blockShape 4 1000) 250 0 ≡ false
-  -- M=3, S=20: the first and the last block, and those beside them
-  pub first-block : (dataBinOk workedShape 1 19 ≡ false) × (dataBinOk workedShape 1 20 ≡ true)
-  pub last-block : (dataBinOk workedShape 1 22 ≡ true) × (dataBinOk workedShape 1 23 ≡ false)
+  pub p6 : phaseOk (blockShape 4 1000) 249 ≡ true
+  pub p7 : phaseOk (blockShape 4 1000) 250 ≡ false
+  -- request 2026-01
+  pub blocks : BlockRows
   -- the bins of bank 0, then those of bank 1
   pub bin-order : binIndex 6 1 4 ≡ 10
   -- "4: t is 2,147,483,648"

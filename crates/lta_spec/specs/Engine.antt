@@ -1,17 +1,17 @@
 -- The engine's definitions of one cell: the rules of the plain machine again, on rows of words. A text of its own, so
 -- that demand 3 holds one against the other; refusal 11 is in Damage. n is the lags of a cell, bins the data bins of
 -- a bank.
-use Prim.Native.Nat.{ℕ, _+_, _*_}
-use mathlib.Core.Bool.{Bool, true, false, _&&_}
+use Prim.Native.Nat.{ℕ, suc, _+_, _*_}
+use mathlib.Core.Bool.{Bool, true, false, cond, _&&_, _||_}
 use mathlib.Core.List.{List, _∷_, map}
-use lib.Dec.{ltb, eqb}
+use lib.Dec.{leb, ltb, eqb}
 use lib.ListN.{getD, set, take, replicate}
 use Rattle.lta_spec.specs.Words.{sums, zeros}
 use Rattle.lta_spec.specs.Shape.{openLimit, binLimit}
 use Rattle.lta_spec.specs.Size.{depth}
 use Rattle.lta_spec.specs.Place.{Label, Stamped, Bin, Cell, Result, free, filling, ready, ordered, overrun, full}
 use Rattle.lta_spec.specs.Place.{replaced, tooWide, holdoff, lossCount}
-use Rattle.lta_spec.specs.Call.{save, last, discard, idle, binIndex}
+use Rattle.lta_spec.specs.Call.{save, add, last, discard, idle, binIndex}
 use Rattle.lta_spec.specs.Row.{ticksOf, emptyRow, tickRow, entryWord, fromWord}
 
 -- a row of words
@@ -34,14 +34,40 @@ freeBin n = record { state = free; content = stamped (emptyRow n) 0 }
 unfoldable pub binAt : (n k : ℕ) → Cell Row → Bin Row
 binAt n k c = getD (c .bins) k (freeBin n)
 
--- One cell of a run: its places, and its X and Y shift registers, newest entry first
+-- The recirculation block counter of a cell, so that cleared words are a fresh run's: the current block as its offset
+-- from S, and the last command plus 1, 0 for none
+pub record Counter : Type 0 where
+  pub offset : ℕ
+  pub lastCode : ℕ
+
+-- One cell of a run: its places, its block counter, and its X and Y shift registers, newest entry first
 pub record Unit : Type 0 where
   pub cell : Cell Row
+  pub counter : Counter
   pub xs : List ℕ
   pub ys : List ℕ
 
 abbrev pub noLabel : Label
 noLabel = record { command = 0; bank = 0; bin = 0 }
+
+-- The counter's step in a dump: the offset returns to 0 on the first command, on 100, and on 010 behind 000 or 001,
+-- whose codes are the lowest two.
+unfoldable pub resets : (command lastCode : ℕ) → Bool
+resets command code = eqb code 0 || (eqb command discard || (eqb command last && leb code (suc add)))
+
+-- Else it is the next of as many offsets as there are blocks, behind the last one 0.
+unfoldable pub offsetAfter : (blocks command : ℕ) → Counter → ℕ
+offsetAfter blocks command k =
+    cond (resets command (k .lastCode)) 0 (cond (ltb (suc (k .offset)) blocks) (suc (k .offset)) 0)
+
+unfoldable pub counted : (blocks command : ℕ) → Counter → Counter
+counted blocks command k =
+    cond (eqb command idle) k (record { offset = offsetAfter blocks command k; lastCode = suc command })
+
+-- the label of a dump: the data bins of a phase stand side by side, one for each block
+abbrev pub dumpLabel : (blocks command bank phase offset : ℕ) → Label
+dumpLabel blocks command bank phase offset =
+    record { command = command; bank = bank; bin = phase * blocks + offset }
 
 module _ (n : ℕ) where
   -- Tick. A tick's row is added to Open, or to loss 6 where Open is full.
@@ -70,6 +96,7 @@ module _ (n : ℕ) where
       let ys = shifted y (u .ys) in
       record {
         cell = tickBy (hasRoom (u .cell)) (tickRow n (map fromWord xs) (map fromWord ys)) (u .cell);
+        counter = u .counter;
         xs = xs;
         ys = ys;
       }
@@ -193,6 +220,7 @@ module _ (n : ℕ) where
               bins = replicate (2 * bins) (freeBin n);
               losses = replicate lossCount (emptyRow n);
             };
+        counter = record { offset = 0; lastCode = 0 };
         xs = zeros (depth n);
         ys = zeros (depth n);
       }

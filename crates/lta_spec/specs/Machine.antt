@@ -1,13 +1,13 @@
 -- Document 01, "The plain machine", one cell: each place holds a set of tick numbers, as a list.
-use Prim.Native.Nat.{ℕ, _+_, _*_}
-use mathlib.Core.Bool.{Bool, true, false, _&&_}
+use Prim.Native.Nat.{ℕ, suc, _+_, _*_, _-_}
+use mathlib.Core.Bool.{Bool, true, false, cond, _&&_, _||_}
 use mathlib.Core.List.{List, [], _∷_, _++_}
 use lib.Dec.{ltb, eqb}
 use lib.ListN.{length, getD, set, replicate}
 use Rattle.lta_spec.specs.Shape.{openLimit, binLimit}
 use Rattle.lta_spec.specs.Place.{Label, Stamped, Bin, Cell, Result, free, filling, ready}
 use Rattle.lta_spec.specs.Place.{ordered, overrun, full, replaced, tooWide, holdoff, lossCount}
-use Rattle.lta_spec.specs.Call.{save, last, discard, idle, binIndex}
+use Rattle.lta_spec.specs.Call.{save, add, last, discard, idle, binIndex}
 
 -- a set of tick numbers
 abbrev pub Ticks : Type 0
@@ -63,6 +63,45 @@ dumpBy false false false l t c = record { answer = 0; cell = holdOpen l t c }
 
 unfoldable pub dumpCell : Label → (t : ℕ) → Cell Ticks → Result Ticks
 dumpCell l t c = dumpBy (eqb (l .command) idle) (eqb (l .command) discard) (eqb (c .held .occupied) 1) l t c
+
+-- Request 2026-01, the recirculation block counter: "Each cell keeps a current block." The last command is that of the
+-- cell's last accepted dump but 111, whatever became of Open.
+pub data LastCommand : Type 0 where
+  none : LastCommand
+  was : (command : ℕ) → LastCommand
+
+pub record Counter : Type 0 where
+  pub block : ℕ
+  pub lastCommand : LastCommand
+
+-- "It returns to S on 100, and on a 010 whose cell's last command before it was 000 or 001"; "A cell's first dump but
+-- 111 in a fresh run uses S"
+unfoldable pub returns : (command : ℕ) → LastCommand → Bool
+returns command none = true
+returns command (was before) = eqb command discard || (eqb command last && (eqb before save || eqb before add))
+
+-- start is S, blocks is M
+module _ (start blocks : ℕ) where
+  -- "any other accepted dump but 111 moves it one on, from S + M - 1 back to S"
+  unfoldable pub oneOn : (block : ℕ) → ℕ
+  oneOn block = cond (eqb block (start + blocks - 1)) start (suc block)
+
+  -- "111 never counts as an earlier command", and leaves the block. "The value after this step is the dump's block."
+  unfoldable pub counted : (command : ℕ) → Counter → Counter
+  counted command k =
+      cond (eqb command idle) k
+      (record {
+        block = cond (returns command (k .lastCommand)) start (oneOn (k .block));
+        lastCommand = was command;
+      })
+
+  -- "Data bin = phase × M + (block - S) (memo figure 4-41)"
+  abbrev pub dataBin : (phase block : ℕ) → ℕ
+  dataBin phase block = phase * blocks + (block - start)
+
+  -- the label of a dump of that block
+  abbrev pub dumpLabel : (command bank phase block : ℕ) → Label
+  dumpLabel command bank phase block = record { command = command; bank = bank; bin = dataBin phase block }
 
 -- **Integrate.** Held "becomes unoccupied", and keeps its label and stamp; bin k and the losses
 -- become b and ls.
@@ -155,3 +194,6 @@ freshCell bins =
       bins = replicate (2 * bins) freeBin;
       losses = replicate lossCount [];
     }
+
+abbrev pub freshCounter : (start : ℕ) → Counter
+freshCounter start = record { block = start; lastCommand = none }

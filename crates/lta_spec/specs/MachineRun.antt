@@ -9,23 +9,25 @@ use Rattle.lta_spec.specs.Words.{splice}
 use Rattle.lta_spec.specs.Refusals.{Test, test, firstOf, decided}
 use Rattle.lta_spec.specs.Shape.{runLimit}
 use Rattle.lta_spec.specs.Size.{hostTests}
-use Rattle.lta_spec.specs.Place.{Cell, Result, ready, lossCount}
+use Rattle.lta_spec.specs.Place.{Cell, ready, lossCount}
 use Rattle.lta_spec.specs.Frame.{accumulated, frameLength}
-use Rattle.lta_spec.specs.Call.{Call, lentTo, commandOk, dumpLabel, dataBinOk, bankOk, binIndex}
+use Rattle.lta_spec.specs.Call.{Call, lentTo, commandOk, phaseOk, bankOk, binIndex}
 use Rattle.lta_spec.specs.Call.Call.{tick, dump, integrate, emit, reading}
 use Rattle.lta_spec.specs.Answer.{Answer, refusal}
 use Rattle.lta_spec.specs.Answer.Answer.{number, entry}
 use Rattle.lta_spec.specs.Machine.{Ticks, hasRoom, tickCell, dumpCell, integrateCell, binAt, emptyBin, freshCell}
+use Rattle.lta_spec.specs.Machine.{Counter, counted, dumpLabel, freshCounter}
 use Rattle.lta_spec.specs.Numbers.{Emitted, setSums, setFrame}
 use Rattle.lta_spec.specs.declared.Shape.{Shape}
 use Rattle.lta_spec.specs.declared.Refusal.the-variants.{WrongSamples, RunFull, NoCell, BadCommand, NoBin}
 use Rattle.lta_spec.specs.declared.Refusal.the-variants.{NothingHeld, NotReady, ShortBuffer, NoLag}
 use Rattle.lta_spec.specs.declared.Verdict.{Verdict}
 
--- One cell of a run: its places, its emitted frames, newest first, and the X and Y bytes of the accepted ticks,
--- newest first, from which all numbers follow
+-- One cell of a run: its places, its block counter, its emitted frames, newest first, and the X and Y bytes of the
+-- accepted ticks, newest first, from which all numbers follow
 pub record Unit : Type 0 where
   pub cell : Cell Ticks
+  pub counter : Counter
   pub frames : List Emitted
   pub xs : List ℕ
   pub ys : List ℕ
@@ -35,7 +37,8 @@ pub record Run : Type 0 where
   pub units : List Unit
 
 abbrev pub freshUnit : Shape → Unit
-freshUnit sh = record { cell = freshCell (sh .bins); frames = []; xs = []; ys = [] }
+freshUnit sh =
+    record { cell = freshCell (sh .bins); counter = freshCounter (sh .start); frames = []; xs = []; ys = [] }
 
 -- a fresh run: "tick number t = 0, all sets empty"
 abbrev pub start : Shape → Run
@@ -52,10 +55,10 @@ module _ (sh : Shape) (r : Run) where
       test (eqb (length samples) (2 * sh .cells)) WrongSamples
       ∷ test (not (eqb (r .t) runLimit)) RunFull
       ∷ []
-  callTests (dump cell command bank phase block) =
+  callTests (dump cell command bank phase) =
       test (ltb cell (sh .cells)) NoCell
       ∷ test (commandOk command) BadCommand
-      ∷ test (bankOk bank && dataBinOk sh phase block) NoBin
+      ∷ test (bankOk bank && phaseOk sh phase) NoBin
       ∷ []
   callTests (integrate cell) =
       test (ltb cell (sh .cells)) NoCell
@@ -87,6 +90,7 @@ tickUnits t samples [] = []
 tickUnits t samples (u ∷ us) =
     record {
       cell = tickCell t (u .cell);
+      counter = u .counter;
       frames = u .frames;
       xs = getD samples 0 0 ∷ u .xs;
       ys = getD samples 1 0 ∷ u .ys;
@@ -98,14 +102,18 @@ unfoldable pub heldOff : List Unit → ℕ
 heldOff [] = 0
 heldOff (u ∷ us) = cond (hasRoom (u .cell)) 0 1 + heldOff us
 
--- the run with the places of cell c as a dump or an integration leaves them
-unfoldable pub withCell : Shape → (c : ℕ) → Cell Ticks → Run → Run
-withCell sh c places r =
+-- the run with the places and the block counter of cell c as a dump leaves them
+unfoldable pub withDump : Shape → (c : ℕ) → Cell Ticks → Counter → Run → Run
+withDump sh c places k r =
     let u = unitAt sh c r in
     record {
       t = r .t;
-      units = set (r .units) c (record { cell = places; frames = u .frames; xs = u .xs; ys = u .ys });
+      units = set (r .units) c (record { cell = places; counter = k; frames = u .frames; xs = u .xs; ys = u .ys });
     }
+
+-- the run with the places of cell c as an integration leaves them
+unfoldable pub withCell : Shape → (c : ℕ) → Cell Ticks → Run → Run
+withCell sh c places r = withDump sh c places ((unitAt sh c r) .counter) r
 
 -- what an emission of a bin of cell c sends
 unfoldable pub emitted : Shape → (c bank bin : ℕ) → Run → Emitted
@@ -126,14 +134,12 @@ withFrame sh c bank bin r =
           set (r .units) c
           (record {
             cell = emptyBin (binIndex (sh .bins) bank bin) (u .cell);
+            counter = u .counter;
             frames = emitted sh c bank bin r ∷ u .frames;
             xs = u .xs;
             ys = u .ys;
           });
     }
-
-abbrev pub moved : Shape → (c : ℕ) → Result Ticks → Run → Step
-moved sh c x r = record { answer = number (x .answer); out = []; run = withCell sh c (x .cell) r }
 
 -- what an accepted call does
 unfoldable pub accepted : Shape → Call → Run → Step
@@ -143,9 +149,14 @@ accepted sh (tick samples) r =
       out = [];
       run = record { t = suc (r .t); units = tickUnits (r .t) samples (r .units) };
     }
-accepted sh (dump c command bank phase block) r =
-    moved sh c (dumpCell (dumpLabel sh command bank phase block) (r .t) ((unitAt sh c r) .cell)) r
-accepted sh (integrate c) r = moved sh c (integrateCell (sh .bins) ((unitAt sh c r) .cell)) r
+accepted sh (dump c command bank phase) r =
+    let u = unitAt sh c r in
+    let k = counted (sh .start) (sh .blocks) command (u .counter) in
+    let x = dumpCell (dumpLabel (sh .start) (sh .blocks) command bank phase (k .block)) (r .t) (u .cell) in
+    record { answer = number (x .answer); out = []; run = withDump sh c (x .cell) k r }
+accepted sh (integrate c) r =
+    let x = integrateCell (sh .bins) ((unitAt sh c r) .cell) in
+    record { answer = number (x .answer); out = []; run = withCell sh c (x .cell) r }
 accepted sh (emit c bank bin out) r =
     let u = unitAt sh c r in
     record {

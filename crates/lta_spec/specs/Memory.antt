@@ -21,26 +21,35 @@ toBin (state, (stamp, row)) = record { state = state; content = record { members
 unfoldable pub binL : (n : ℕ) → Layout (Bin Row)
 binL n = fields {A = BinParts} ofBin toBin (pair word (pair word (block (rowWords n))))
 
--- a cell: Held's flag, command, bank and data bin; the stamps of Open and Held; the rows of Open, Held and losses 1
--- to 6; the X and the Y shift register; the bins of bank 0 and of bank 1
+-- a cell: Held's flag, command, bank and data bin; the stamps of Open and Held; the block counter; the rows of Open,
+-- Held and losses 1 to 6; the X and the Y shift register; the bins of bank 0 and of bank 1
 abbrev pub RowParts : Type 0
 RowParts = Row × (Row × (List Row × (List ℕ × (List ℕ × List (Bin Row)))))
 
+abbrev pub CounterParts : Type 0
+CounterParts = ℕ × (ℕ × RowParts)
+
 abbrev pub CellParts : Type 0
-CellParts = ℕ × (ℕ × (ℕ × (ℕ × (ℕ × (ℕ × RowParts)))))
+CellParts = ℕ × (ℕ × (ℕ × (ℕ × (ℕ × (ℕ × CounterParts)))))
 
 abbrev pub rowsOf : Unit → RowParts
 rowsOf u =
     let c = u .cell in (c .opened .members, (c .held .content .members, (c .losses, (u .xs, (u .ys, c .bins)))))
 
+abbrev pub counterOf : Unit → CounterParts
+counterOf u = (u .counter .offset, (u .counter .lastCode, rowsOf u))
+
 abbrev pub ofUnit : Unit → CellParts
 ofUnit u =
     let c = u .cell in
     let l = c .held .label in
-    (c .held .occupied, (l .command, (l .bank, (l .bin, (c .opened .stamp, (c .held .content .stamp, rowsOf u))))))
+    (c .held .occupied, (l .command, (l .bank, (l .bin, (c .opened .stamp, (c .held .content .stamp, counterOf u))))))
 
 abbrev pub toUnit : CellParts → Unit
-toUnit (occupied, (command, (bank, (bin, (openStamp, (heldStamp, (opened, (held, (losses, (xs, (ys, bins))))))))))) =
+toUnit (
+  occupied,
+  (command, (bank, (bin, (openStamp, (heldStamp, (offset, (code, (opened, (held, (losses, (xs, (ys, bins)))))))))))),
+) =
     record {
       cell =
           record {
@@ -54,6 +63,7 @@ toUnit (occupied, (command, (bank, (bin, (openStamp, (heldStamp, (opened, (held,
             bins = bins;
             losses = losses;
           };
+      counter = record { offset = offset; lastCode = code };
       xs = xs;
       ys = ys;
     }
@@ -67,10 +77,12 @@ unitL n bins =
     (pair word
     (pair word
     (pair word
+    (pair word
+    (pair word
     (pair (block (rowWords n))
     (pair (block (rowWords n))
     (pair (many lossCount (block (rowWords n)))
-    (pair (block (depth n)) (pair (block (depth n)) (many (2 * bins) (binL n)))))))))))))
+    (pair (block (depth n)) (pair (block (depth n)) (many (2 * bins) (binL n)))))))))))))))
 
 -- a run: t, and its cells
 pub record Run : Type 0 where

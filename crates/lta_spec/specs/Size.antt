@@ -19,9 +19,10 @@ depth n = n / 2 + 1
 abbrev pub binWords : (n : ℕ) → ℕ
 binWords n = 2 + rowWords n
 
--- a cell: flag, label and two stamps; Open, Held and six losses; two shift registers; the bins of both banks
+-- a cell: flag, label, two stamps and the block counter; Open, Held and six losses; two shift registers; the bins of
+-- both banks
 abbrev pub cellWords : (n bins : ℕ) → ℕ
-cellWords n bins = 6 + 8 * rowWords n + 2 * depth n + 2 * bins * binWords n
+cellWords n bins = 8 + 8 * rowWords n + 2 * depth n + 2 * bins * binWords n
 
 -- t, and the cells
 unfoldable pub memoryWords : Shape → ℕ

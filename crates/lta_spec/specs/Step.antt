@@ -10,14 +10,13 @@ use Rattle.lta_spec.specs.Words.{splice}
 use Rattle.lta_spec.specs.Refusals.{Test, test, firstOf, decided}
 use Rattle.lta_spec.specs.Shape.{shapeOk, runLimit, openLimit}
 use Rattle.lta_spec.specs.Size.{memoryWords, hostTests}
-use Rattle.lta_spec.specs.Place.{Stamped, Cell, Result, ready, lossCount}
+use Rattle.lta_spec.specs.Place.{Stamped, Cell, ready, lossCount}
 use Rattle.lta_spec.specs.Frame.{accumulated, frameLength, frameOf, lagWords, header}
 use Rattle.lta_spec.specs.Call.{
   Call,
   lentTo,
   commandOk,
-  dumpLabel,
-  dataBinOk,
+  phaseOk,
   bankOk,
   binIndex,
   emittedFields,
@@ -28,17 +27,20 @@ use Rattle.lta_spec.specs.Answer.Answer.{refused, number, entry, fields,
 use Rattle.lta_spec.specs.Row.{ticksOf, edgeOf, centreOf, rowLags, rowSums}
 use Rattle.lta_spec.specs.Engine.{
   Row,
+  Counter,
   Unit,
   lossAt,
   binAt,
   hasRoom,
   tickUnit,
+  counted,
+  dumpLabel,
   dumpCell,
   integrateCell,
   emptyBin,
   freshUnit,
 }
-use Rattle.lta_spec.specs.Damage.{tickSound, dumpSound, integrateSound, emitSound, readSound, forecastSound}
+use Rattle.lta_spec.specs.Damage.{tickSound, dumpUnitSound, integrateSound, emitSound, readSound, forecastSound}
 use Rattle.lta_spec.specs.Memory.{Run, runL, start}
 use Rattle.lta_spec.specs.declared.Shape.{Shape}
 use Rattle.lta_spec.specs.declared.Refusal.the-variants.{
@@ -96,11 +98,11 @@ module _ (sh : Shape) where
       ∷ test (not (eqb (r .t) runLimit)) RunFull
       ∷ soundAt (unitsSound (r .t) (r .units)) r
       ∷ []
-  callTests (dump c command bank phase block) r =
+  callTests (dump c command bank phase) r =
       test (ltb c (sh .cells)) NoCell
       ∷ test (commandOk command) BadCommand
-      ∷ test (bankOk bank && dataBinOk sh phase block) NoBin
-      ∷ soundAt (dumpSound (sh .lags) (sh .bins) (r .t) command (cellAt c r)) r
+      ∷ test (bankOk bank && phaseOk sh phase) NoBin
+      ∷ soundAt (dumpUnitSound (sh .lags) (sh .bins) (sh .blocks) (r .t) command (unitAt c r)) r
       ∷ []
   callTests (integrate c) r =
       test (ltb c (sh .cells)) NoCell
@@ -130,11 +132,15 @@ module _ (sh : Shape) where
   heldOff [] = 0
   heldOff (u ∷ us) = cond (hasRoom (sh .lags) (u .cell)) 0 1 + heldOff us
 
-  -- the run with the places of cell c changed
-  unfoldable pub withCell : (c : ℕ) → Cell Row → Run → Run
-  withCell c places r =
+  -- the run with the places and the block counter of cell c changed
+  unfoldable pub withDump : (c : ℕ) → Cell Row → Counter → Run → Run
+  withDump c places k r =
       let u = unitAt c r in
-      record { t = r .t; units = set (r .units) c (record { cell = places; xs = u .xs; ys = u .ys }) }
+      record { t = r .t; units = set (r .units) c (record { cell = places; counter = k; xs = u .xs; ys = u .ys }) }
+
+  -- the run with its places changed alone
+  unfoldable pub withCell : (c : ℕ) → Cell Row → Run → Run
+  withCell c places r = withDump c places ((unitAt c r) .counter) r
 
   -- the bytes of the frame of a bin's row
   unfoldable pub rowFrame : (cell bank bin : ℕ) → Stamped Row → List ℕ
@@ -144,9 +150,6 @@ module _ (sh : Shape) where
       (lagWords (rowLags (ticksOf row) (drop 3 row)))
 
   -- what an accepted call answers and leaves
-  abbrev pub moved : (c : ℕ) → Result Row → Run → Done
-  moved c x r = record { answer = number (x .answer); out = []; run = withCell c (x .cell) r }
-
   unfoldable pub accepted : Call → Run → Done
   accepted (tick samples) r =
       record {
@@ -154,9 +157,14 @@ module _ (sh : Shape) where
         out = [];
         run = record { t = suc (r .t); units = tickUnits samples (r .units) };
       }
-  accepted (dump c command bank phase block) r =
-      moved c (dumpCell (sh .lags) (dumpLabel sh command bank phase block) (r .t) (cellAt c r)) r
-  accepted (integrate c) r = moved c (integrateCell (sh .lags) (sh .bins) (cellAt c r)) r
+  accepted (dump c command bank phase) r =
+      let u = unitAt c r in
+      let k = counted (sh .blocks) command (u .counter) in
+      let x = dumpCell (sh .lags) (dumpLabel (sh .blocks) command bank phase (k .offset)) (r .t) (u .cell) in
+      record { answer = number (x .answer); out = []; run = withDump c (x .cell) k r }
+  accepted (integrate c) r =
+      let x = integrateCell (sh .lags) (sh .bins) (cellAt c r) in
+      record { answer = number (x .answer); out = []; run = withCell c (x .cell) r }
   accepted (emit c bank bin out) r =
       let k = binIndex (sh .bins) bank bin in
       record {

@@ -1,6 +1,6 @@
 -- A worked run beside P1, in which little is 0: two cells of four lags, S and Z above 0, M = 3, bank 1, a data bin
--- above M, phases that turn, invalid samples, losses 1 to 4. What each call returns was computed from document 01,
--- not from the definitions here.
+-- above M, phases that turn, invalid samples, losses 1 to 4. What each call returns was computed from documents 01 and
+-- 02, not from the definitions here.
 use Prim.Native.Nat.{ℕ}
 use mathlib.Core.List.{List, [], _∷_, _++_, map}
 use lib.IntN.{ℤ, pos, negℤ}
@@ -50,8 +50,8 @@ workedFrame =
     ++ bytesOf
     -- W0: bits 0-2 = 2, cell 1 in bits 11-14
     (0x0000_0802
-    -- W1: Y block 20 + 5 mod 3 = 16h, data bin 5, bank 1
-    ∷ 0x8005_1600
+    -- W1: Y block 20 + 4 mod 3 = 15h, data bin 4, bank 1
+    ∷ 0x8004_1500
     -- W2 ticks, W3 centre count, W4 edge count
     ∷ 3
     ∷ 2
@@ -69,50 +69,60 @@ workedFrame =
     ∷ 15
     ∷ 13
     -- "sum of all words before it, wrapping at 32 bits"
-    ∷ 0x8005_21D5
+    ∷ 0x8004_20D5
     ∷ [])
 
 -- a frame buffer with one byte more than a frame
 abbrev pub lent : List ℕ
 lent = replicate 67 9
 
--- a tick brings X and Y of cell 0, then of cell 1; a dump has cell, command, bank, phase and block; an emission has
--- cell, bank and data bin
+-- a tick brings X and Y of cell 0, then of cell 1; a dump has cell, command, bank and phase; an emission has cell,
+-- bank and data bin
 abbrev pub workedRun : List CallLine
 workedRun =
-    line (tick (0x0A ∷ 0x63 ∷ 0x36 ∷ 0x79 ∷ [])) (number 0)
+    -- cell 1: its first dump uses block 20, Open is empty
+    line (dump 1 4 1 1) (number 1)
+    ∷ line (tick (0x0A ∷ 0x63 ∷ 0x36 ∷ 0x79 ∷ [])) (number 0)
     ∷ line (tick (0x96 ∷ 0xD4 ∷ 0x48 ∷ 0x64 ∷ [])) (number 0)
     ∷ line (tick (0xA2 ∷ 0x84 ∷ 0x69 ∷ 0x04 ∷ [])) (number 0)
     -- cell 0: 100, ticks 0 to 2 go to loss 1
-    ∷ line (dump 0 4 0 0 20) (number 1)
+    ∷ line (dump 0 4 0 0) (number 1)
     ∷ line (tick (0x85 ∷ 0xB6 ∷ 0x87 ∷ 0x68 ∷ [])) (number 0)
     ∷ line (tick (0x36 ∷ 0xC8 ∷ 0x0F ∷ 0xAF ∷ [])) (number 0)
-    -- cell 0 holds ticks 3 and 4; cell 1 saves ticks 0 to 4 in bank 1, data bin 1 × 3 + (22 - 20)
-    ∷ line (dump 0 1 0 0 21) (number 0)
-    ∷ line (dump 1 0 1 1 22) (number 0)
+    -- cell 0 holds ticks 3 and 4; cell 1 saves ticks 0 to 4 in bank 1, block 21, data bin 1 × 3 + (21 - 20)
+    ∷ line (dump 0 1 0 0) (number 0)
+    ∷ line (dump 1 0 1 1) (number 0)
+    -- cell 1: two overruns without ticks move on to block 22, and back to 20
+    ∷ line (dump 1 1 1 1) (number 2)
+    ∷ line (dump 1 1 1 1) (number 2)
     ∷ line (integrate 1) (number 0)
     ∷ line (tick (0x26 ∷ 0xFB ∷ 0x5F ∷ 0x0B ∷ [])) (number 0)
-    -- 111 does nothing: Open's stamp stays 5
-    ∷ line (dump 1 7 0 0 20) (number 7)
+    -- 111 does nothing: Open's stamp stays 5, and the block 20
+    ∷ line (dump 1 7 0 0) (number 7)
     ∷ line (tick (0x48 ∷ 0xBD ∷ 0xC8 ∷ 0x4A ∷ [])) (number 0)
-    -- cell 1: ticks 5 and 6 replace ticks 0 to 4, which go to loss 4
-    ∷ line (dump 1 0 1 1 22) (number 0)
+    -- cell 1, block 21: ticks 5 and 6 replace ticks 0 to 4, which go to loss 4; an overrun by 010 behind 000 returns to
+    -- block 20
+    ∷ line (dump 1 0 1 1) (number 0)
+    ∷ line (dump 1 2 1 1) (number 2)
     ∷ line (integrate 1) (number 4)
     ∷ line (tick (0xDB ∷ 0x81 ∷ 0x14 ∷ 0x6F ∷ [])) (number 0)
-    -- cell 0: Held is occupied, and ticks 5 to 7 go to loss 2; cell 1: tick 7 joins, and the bin is Ready
-    ∷ line (dump 0 2 0 0 21) (number 2)
-    ∷ line (dump 1 2 1 1 22) (number 0)
+    -- cell 0: Held is occupied, and ticks 5 to 7 go to loss 2; cell 1: 010 behind 010 moves on to block 21, tick 7
+    -- joins, and the bin is Ready
+    ∷ line (dump 0 2 0 0) (number 2)
+    ∷ line (dump 1 2 1 1) (number 0)
+    ∷ line (dump 1 1 1 1) (number 2)
+    ∷ line (dump 1 0 1 1) (number 2)
     ∷ line (integrate 1) (number 0)
     ∷ line (tick (0x54 ∷ 0x6C ∷ 0x76 ∷ 0xD6 ∷ [])) (number 0)
-    -- cell 1: tick 8 goes to loss 3
-    ∷ line (dump 1 1 1 1 22) (number 0)
+    -- cell 1, block 21 again: tick 8 goes to loss 3
+    ∷ line (dump 1 1 1 1) (number 0)
     ∷ line (integrate 1) (number 3)
     -- a reading has cell, lag and loss number
     ∷ line (reading 0 2 1) (sumsRead (pos 18) (minus 30) 3 1 2)
     ∷ line (reading 0 3 2) (sumsRead (pos 36) (minus 78) 3 2 1)
     ∷ line (reading 1 1 3) (sumsRead (minus 24) (pos 48) 1 1 1)
     ∷ line (reading 1 0 4) (sumsRead (pos 118) (minus 21) 5 3 2)
-    -- data bin 5 of bank 0 is Free
-    ∷ record { call = emit 1 0 5 lent; returned = record { answer = refused 9; out = lent } }
-    ∷ record { call = emit 1 1 5 lent; returned = record { answer = number 66; out = workedFrame ++ 9 ∷ [] } }
+    -- data bin 4 of bank 0 is Free
+    ∷ record { call = emit 1 0 4 lent; returned = record { answer = refused 9; out = lent } }
+    ∷ record { call = emit 1 1 4 lent; returned = record { answer = number 66; out = workedFrame ++ 9 ∷ [] } }
     ∷ []

@@ -83,9 +83,9 @@ stopped a b h =
     let cut = unknown-by (recordSize l) (markedIn l) (kind-of l) a (sym (by-letters a two) ∙ size) in
     no-more (a ++ b) (ap isRecord (same-next a b here ∙ (uncut a here ∙ cut)))
 
--- bytes without a record at their head, and without an unknown mark: fewer than 8
+-- bytes without a record at their head, and without an unknown mark: fewer than 7
 short-by : (b : List ℕ) (cut : Bool) → ltb (length b) (sizeIn b) ≡ cut → isRecord (nextIn b) ≡ false
-    → unknownMark b ≡ false → length b < 8
+    → unknownMark b ≡ false → length b < 7
 short-by b true e h k = omega (arith, ltb-true (length b) (sizeIn b) e, (wanted b) .most)
 short-by b false e h k =
     let here = ltb-false (length b) (sizeIn b) e in

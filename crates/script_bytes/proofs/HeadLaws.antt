@@ -1,4 +1,4 @@
--- What stands at the head of some bytes, by the size that it wants: 2 to 8 bytes.
+-- What stands at the head of some bytes, by the size that it wants: 2 to 7 bytes.
 use Prim.Native.Nat.{ℕ, _≤_, _<_}
 use mathlib.Core.Path.{_≡_, refl}
 use mathlib.Core.Bool.{Bool, true, false, cond, false≢true}
@@ -16,7 +16,7 @@ use Rattle.script_bytes.specs.Bytes.{sizeIn, nextIn, isRecord}
 
 pub record Sized (n : ℕ) : Type 0 where
   pub least : 2 ≤ n
-  pub most : n ≤ 8
+  pub most : n ≤ 7
 
 sized : (n : ℕ) (marked : List ℕ → Next) → Kind n marked → Sized n
 sized n marked (inl k) = record { least = omega (arith, k .least); most = k .most }

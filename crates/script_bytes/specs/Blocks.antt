@@ -11,5 +11,5 @@ pub record InBlocks : Type 0 where
   pub joins : (a b : List ℕ) → recordsIn (a ++ b) ≡ behind ((recordsIn a) .list) (recordsIn ((recordsIn a) .left ++ b))
   -- behind an unknown mark no record stands, whatever follows
   pub stops : (a b : List ℕ) → unknownMark a ≡ true → recordsIn (a ++ b) ≡ none (a ++ b)
-  -- what is left else is the front of a record, shorter than the longest, so a block of 8 bytes has room for more
-  pub short : (a : List ℕ) → unknownMark ((recordsIn a) .left) ≡ false → length ((recordsIn a) .left) < 8
+  -- what is left else is the front of a record, shorter than the longest, so a block of 7 bytes has room for more
+  pub short : (a : List ℕ) → unknownMark ((recordsIn a) .left) ≡ false → length ((recordsIn a) .left) < 7

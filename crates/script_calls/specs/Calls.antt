@@ -11,7 +11,7 @@ use Rattle.script_records.specs.declared.Record.the-variants as kind
 -- an emission takes the buffer that is lent
 abbrev pub callOf : Record → (out : List ℕ) → Call
 callOf (kind.Tick x y) out = tick (x ∷ y ∷ [])
-callOf (kind.Dump d) out = dump (d .cell) (d .command) (d .bank) (d .phase) (d .block)
+callOf (kind.Dump d) out = dump (d .cell) (d .command) (d .bank) (d .phase)
 callOf (kind.Integrate cell) out = integrate cell
 callOf (kind.Emit e) out = emit (e .cell) (e .bank) (e .bin) out
 

@@ -35,15 +35,7 @@ pub fn call(mem: &mut [u64], r: Record, out: &mut [u8]) -> Numbered
 {
     match r {
         Record::Tick(x, y) => ticked(lta::tick(SHAPE, mem, &[x, y])),
-        Record::Dump(d) => moved(lta::dump(
-            SHAPE,
-            mem,
-            d.cell,
-            d.command,
-            d.bank,
-            d.phase,
-            d.block,
-        )),
+        Record::Dump(d) => moved(lta::dump(SHAPE, mem, d.cell, d.command, d.bank, d.phase)),
         Record::Integrate(cell) => moved(lta::integrate(SHAPE, mem, cell)),
         Record::Emit(e) => written(lta::emit(SHAPE, mem, e.cell, e.bank, e.bin, out)),
     }

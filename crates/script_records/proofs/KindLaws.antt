@@ -41,7 +41,7 @@ pub record Known (size : ℕ) (marked : List ℕ → Next) : Type 0 where
   pub read : List ℕ → Record
   pub is : (b : List ℕ) → marked b ≡ next.Record (read b)
   pub least : 3 ≤ size
-  pub most : size ≤ 8
+  pub most : size ≤ 7
   -- no byte behind the record is read
   pub stays : (a b : List ℕ) → size ≤ length a → read (a ++ b) ≡ read a
 
@@ -53,7 +53,7 @@ abbrev pub Kind : (size : ℕ) (marked : List ℕ → Next) → Type 0
 Kind size marked = Known size marked ⊎ Unknown size marked
 
 module _ (n : ℕ) (read : List ℕ → Record) (reads : (l : List ℕ) → read (bytes n 0 l) ≡ read l) where
-  known : 3 ≤ n → n ≤ 8 → Kind n (λ b. next.Record (read b))
+  known : 3 ≤ n → n ≤ 7 → Kind n (λ b. next.Record (read b))
   known least most =
       inl
       (record {
@@ -65,11 +65,11 @@ module _ (n : ℕ) (read : List ℕ → Record) (reads : (l : List ℕ) → read
       })
 
 by-kind : (tick dump integrate emit : Bool)
-    → Kind (cond tick 4 (cond dump 8 (cond integrate 3 (cond emit 6 2)))) (λ b. cond tick (next.Record (tickIn b))
+    → Kind (cond tick 4 (cond dump 7 (cond integrate 3 (cond emit 6 2)))) (λ b. cond tick (next.Record (tickIn b))
     (cond dump (next.Record (dumpIn b))
     (cond integrate (next.Record (integrateIn b)) (cond emit (next.Record (emitIn b)) next.Cut))))
 by-kind true dump integrate emit = known 4 tickIn (λ l. refl) (omega arith) (omega arith)
-by-kind false true integrate emit = known 8 dumpIn (λ l. refl) (omega arith) (omega arith)
+by-kind false true integrate emit = known 7 dumpIn (λ l. refl) (omega arith) (omega arith)
 by-kind false false true emit = known 3 integrateIn (λ l. refl) (omega arith) (omega arith)
 by-kind false false false true = known 6 emitIn (λ l. refl) (omega arith) (omega arith)
 by-kind false false false false = inr (record { is = λ b. refl; two = refl })

@@ -30,7 +30,7 @@ emitMark = mark "E" "M"
 unfoldable pub recordSize : (letters : ℕ) → ℕ
 recordSize letters =
     cond (eqb letters tickMark) 4
-    (cond (eqb letters dumpMark) 8 (cond (eqb letters integrateMark) 3 (cond (eqb letters emitMark) 6 2)))
+    (cond (eqb letters dumpMark) 7 (cond (eqb letters integrateMark) 3 (cond (eqb letters emitMark) 6 2)))
 
 -- two bytes from byte i, "low first"
 abbrev pub twoAt : List ℕ → (i : ℕ) → ℕ
@@ -40,17 +40,11 @@ twoAt b i = getD b i 0 + 256 * getD b (i + 1) 0
 abbrev pub tickIn : List ℕ → Record
 tickIn b = kind.Tick (getD b 2 0) (getD b 3 0)
 
--- "DP, cell, command, bank, phase (two bytes, low first), block"
+-- "DP, cell, command, bank, phase (two bytes, low first), block", and by request 2026-01 "The DP record loses its last
+-- byte."
 abbrev pub dumpIn : List ℕ → Record
 dumpIn b =
-    kind.Dump
-    (record {
-      cell = getD b 2 0;
-      command = getD b 3 0;
-      bank = getD b 4 0;
-      phase = twoAt b 5;
-      block = getD b 7 0;
-    })
+    kind.Dump (record { cell = getD b 2 0; command = getD b 3 0; bank = getD b 4 0; phase = twoAt b 5 })
 
 -- "IN, cell"
 abbrev pub integrateIn : List ℕ → Record

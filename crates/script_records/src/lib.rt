@@ -10,7 +10,6 @@ pub struct Dump {
     pub command: u64,
     pub bank: u64,
     pub phase: u64,
-    pub block: u64,
 }
 
 pub struct Emit {
@@ -62,7 +61,7 @@ pub fn size(letters: u64) -> usize
 {
     match letters {
         TK => 4,
-        DP => 8,
+        DP => 7,
         IN => 3,
         EM => 6,
         _ => 2,
@@ -86,7 +85,6 @@ fn dump_in(b: &[u8]) -> Record
         command: one(b[3]),
         bank: one(b[4]),
         phase: two(b[5], b[6]),
-        block: one(b[7]),
     })
 }
 

@@ -34,13 +34,13 @@ pub fn shape_ok(s: Shape) -> bool
     cells & (lags & (bins & (blocks & times)))
 }
 
-// The words of one cell: flag, label and stamps; Open, Held and the losses; two shift registers; the bins.
+// The words of one cell: flag, label, stamps and block counter; Open, Held and the losses; two shift registers; bins.
 pub fn cell_words(n: usize, bins: usize) -> usize
     requires { ⌜ (n ≤ 128) × (bins ≤ 1000) ⌝ }
     ensures { λ r. ⌜ (r ≡ cellWords n bins) × (r ≤ 600000) ⌝ }
 {
     let row = 3 + 2 * n;
-    6 + 8 * row + 2 * (n / 2 + 1) + 2 * bins * (2 + row)
+    8 + 8 * row + 2 * (n / 2 + 1) + 2 * bins * (2 + row)
 }
 
 // The words of work memory that a shape needs.

@@ -21,7 +21,7 @@ use test_lib_tools::words::less;
 use test_lib_tools::words::times;
 
 // Values of a word.
-const VALUES: u64 = 31;
+const VALUES: u64 = 36;
 
 // What a call would take past 2,147,483,648 ticks: 1 of a tick, 3 of Open, 5 of Held, 7 of a Filling bin, or 524,288.
 fn near_long(j: u64) -> u64 {
@@ -35,23 +35,23 @@ fn near_long(j: u64) -> u64 {
 // Value j of a word that is u, in a row of so many ticks.
 fn value(j: u64, u: u64, ticks: u64) -> u64 {
     match j {
-        0..=3 => j,
-        4 => 255,
-        5 => 256,
-        6 => ticks,
-        7 => ticks % 4294967296 + 1,
-        8 => times(ticks, 196),
-        9 => times(ticks, 196) % 4294967296 + 1,
-        10 => NOW,
-        11 => NOW + 1,
-        12 => 524288,
-        13 => 524289,
-        14 => 16777210,
-        15 => 16777211,
-        16 => 16777215,
-        17 => 16777216,
-        18..=28 => near_long(less(j, 18)),
-        29 => 18446744073709551615,
+        0..=8 => j,
+        9 => 255,
+        10 => 256,
+        11 => ticks,
+        12 => ticks % 4294967296 + 1,
+        13 => times(ticks, 196),
+        14 => times(ticks, 196) % 4294967296 + 1,
+        15 => NOW,
+        16 => NOW + 1,
+        17 => 524288,
+        18 => 524289,
+        19 => 16777210,
+        20 => 16777211,
+        21 => 16777215,
+        22 => 16777216,
+        23..=33 => near_long(less(j, 23)),
+        34 => 18446744073709551615,
         _ => u,
     }
 }
@@ -87,7 +87,7 @@ fn second(g: u64) -> u64 {
     }
 }
 
-// Call g in its variant i, on the last cell. A dump names data bin 1.
+// Call g in its variant i, on the last cell. A dump names the only phase bin.
 fn call(n: u64, g: u64, i: u64) -> Call {
     Call {
         kind: kind(g),
@@ -96,8 +96,7 @@ fn call(n: u64, g: u64, i: u64) -> Call {
         cell: 1,
         a: first(g, i),
         b: second(g),
-        phase: 1,
-        block: 0,
+        phase: 0,
     }
 }
 

@@ -5,10 +5,12 @@ use test_lib_memory::due::full;
 use test_lib_memory::due::label_bin;
 use test_lib_memory::map::BANK;
 use test_lib_memory::map::BIN;
+use test_lib_memory::map::BLOCK;
 use test_lib_memory::map::COMMAND;
 use test_lib_memory::map::FLAG;
 use test_lib_memory::map::HELD;
 use test_lib_memory::map::HELD_STAMP;
+use test_lib_memory::map::LAST_COMMAND;
 use test_lib_memory::map::OPEN;
 use test_lib_memory::map::OPEN_STAMP;
 use test_lib_memory::map::bin;
@@ -26,6 +28,9 @@ use test_lib_rules::call::EMIT;
 use test_lib_rules::call::INTEGRATE;
 use test_lib_rules::call::TICK;
 use test_lib_rules::call::cell_words;
+use test_lib_rules::call::data_bin;
+use test_lib_rules::call::next_block;
+use test_lib_rules::call::stored_command;
 use test_lib_rules::history::IN_PHASE;
 use test_lib_rules::history::QUADRATURE;
 use test_lib_rules::history::VALID;
@@ -59,25 +64,42 @@ fn replaced(cell: &[u64], n: u64, held: u64, set: u64, j: u64) -> u64 {
     }
 }
 
-// A kept dump: the label and the stamps. The call's phase is the data bin.
-fn label_word(cell: &[u64], t: u64, k: Call, j: u64) -> u64 {
+// The cell's block after a dump but 111, counted from S.
+fn block_after(cell: &[u64], m: u64, command: u64) -> u64 {
+    next_block(get(cell, BLOCK), get(cell, LAST_COMMAND), command, m)
+}
+
+// A kept dump: the label and the stamp of Held.
+fn label_word(cell: &[u64], m: u64, k: Call, j: u64) -> u64 {
     match j {
         FLAG => 1,
         COMMAND => k.a,
         BANK => k.b,
-        BIN => k.phase,
-        OPEN_STAMP => t,
+        BIN => data_bin(k.phase, m, block_after(cell, m, k.a)),
         _ => get(cell, OPEN_STAMP),
     }
 }
 
-// A dump but 111: Open goes to Held or to a loss.
-fn dump_word(cell: &[u64], n: u64, t: u64, k: Call, answer: u64, j: u64) -> u64 {
-    if (answer == 0) & (j < 6) {
-        return label_word(cell, t, k, j);
+// The fields of a dump but 111: Open's stamp, the block and the last command move, whether it is kept or not.
+fn dump_field(cell: &[u64], m: u64, t: u64, k: Call, answer: u64, j: u64) -> u64 {
+    match j {
+        OPEN_STAMP => t,
+        BLOCK => block_after(cell, m, k.a),
+        LAST_COMMAND => stored_command(k.a),
+        _ => {
+            if answer == 0 {
+                label_word(cell, m, k, j)
+            } else {
+                get(cell, j)
+            }
+        }
     }
-    if j == OPEN_STAMP {
-        return t;
+}
+
+// A dump but 111: Open goes to Held or to a loss.
+fn dump_word(cell: &[u64], n: u64, m: u64, t: u64, k: Call, answer: u64, j: u64) -> u64 {
+    if j <= LAST_COMMAND {
+        return dump_field(cell, m, t, k, answer, j);
     }
     let to = if answer == 0 { HELD } else { loss(answer) };
     moved(cell, n, row(n, OPEN), row(n, to), j)
@@ -184,10 +206,10 @@ fn tick_word(cell: &[u64], n: u64, x: u64, y: u64, j: u64) -> u64 {
 }
 
 // Word j of the cell of a call but a tick.
-fn call_word(cell: &[u64], n: u64, b: u64, t: u64, k: Call, answer: u64, j: u64) -> u64 {
+fn call_word(cell: &[u64], n: u64, b: u64, m: u64, t: u64, k: Call, answer: u64, j: u64) -> u64 {
     let kind = k.kind;
     match kind {
-        DUMP => dump_word(cell, n, t, k, answer, j),
+        DUMP => dump_word(cell, n, m, t, k, answer, j),
         INTEGRATE => integrate_word(cell, n, bin(n, label_bin(cell, b)), answer, j),
         EMIT => emit_word(cell, n, bin(n, number(b, k.a, k.b)), j),
         _ => get(cell, j),
@@ -195,20 +217,39 @@ fn call_word(cell: &[u64], n: u64, b: u64, t: u64, k: Call, answer: u64, j: u64)
 }
 
 // Word j of cell c after a call that was accepted with this answer. Of a tick, a and b are the bytes that every cell
-// gets; of a dump, phase is the data bin.
-fn cell_word(cell: &[u64], n: u64, b: u64, t: u64, k: Call, answer: u64, c: u64, j: u64) -> u64 {
+// gets.
+fn cell_word(
+    cell: &[u64],
+    n: u64,
+    b: u64,
+    m: u64,
+    t: u64,
+    k: Call,
+    answer: u64,
+    c: u64,
+    j: u64,
+) -> u64 {
     if k.kind == TICK {
         return tick_word(cell, n, k.a, k.b, j);
     }
     if (c == k.cell) & (answer != 7) {
-        call_word(cell, n, b, t, k, answer, j)
+        call_word(cell, n, b, m, t, k, answer, j)
     } else {
         get(cell, j)
     }
 }
 
 // Are the words of cell c what is due?
-fn cell_right(mem: &[u64], old: &[u64], n: u64, b: u64, k: Call, answer: u64, c: u64) -> bool {
+fn cell_right(
+    mem: &[u64],
+    old: &[u64],
+    n: u64,
+    b: u64,
+    m: u64,
+    k: Call,
+    answer: u64,
+    c: u64,
+) -> bool {
     let now = cell_of(mem, n, b, c);
     let cell = cell_of(old, n, b, c);
     let t = get(old, 0);
@@ -216,7 +257,7 @@ fn cell_right(mem: &[u64], old: &[u64], n: u64, b: u64, k: Call, answer: u64, c:
     let mut ok = true;
     let mut j: u64 = 0;
     while j < end {
-        let same = get(now, j) == cell_word(cell, n, b, t, k, answer, c, j);
+        let same = get(now, j) == cell_word(cell, n, b, m, t, k, answer, c, j);
         ok = ok & same;
         j += 1;
     }
@@ -224,12 +265,21 @@ fn cell_right(mem: &[u64], old: &[u64], n: u64, b: u64, k: Call, answer: u64, c:
 }
 
 // Are all words of the cells, and t, what is due?
-pub fn right(mem: &[u64], old: &[u64], n: u64, b: u64, cells: u64, k: Call, answer: u64) -> bool {
+pub fn right(
+    mem: &[u64],
+    old: &[u64],
+    n: u64,
+    b: u64,
+    m: u64,
+    cells: u64,
+    k: Call,
+    answer: u64,
+) -> bool {
     let t = wrapping_add_u64(get(old, 0), if k.kind == TICK { 1 } else { 0 });
     let mut ok = get(mem, 0) == t;
     let mut c: u64 = 0;
     while c < cells {
-        let one = cell_right(mem, old, n, b, k, answer, c);
+        let one = cell_right(mem, old, n, b, m, k, answer, c);
         ok = ok & one;
         c += 1;
     }

@@ -98,7 +98,7 @@ fn on_lent(s: Shape, mem: &mut [u64], k: Call, samples: &[u8]) -> u64 {
     let kind = k.kind;
     match kind {
         TICK => ticked(lta::tick(s, mem, head(samples, (k.bytes % 65536) as usize))),
-        DUMP => moved(lta::dump(s, mem, k.cell, k.a, k.b, k.phase, k.block)),
+        DUMP => moved(lta::dump(s, mem, k.cell, k.a, k.b, k.phase)),
         _ => moved(lta::integrate(s, mem, k.cell)),
     }
 }

@@ -72,7 +72,7 @@ fn near(which: u64, right: u64, other: u64) -> u64 {
 
 // Words of memory.
 fn words(m: &[u64], i: u64) -> u64 {
-    near(random(m, i, 4, 160), needed(shape(m)) % 65536, 43700)
+    near(random(m, i, 4, 160), needed(shape(m)) % 65536, 43800)
 }
 
 // The bytes of a tick.
@@ -95,13 +95,13 @@ fn bytes(m: &[u64], i: u64, kind: u64) -> u64 {
     }
 }
 
-// Every command from 000 to 1000b, those that end an integration more often, and now and then a far one.
+// Every command from 000 to 1000b, those that are accepted more often, and now and then a far one.
 fn command(m: &[u64], i: u64) -> u64 {
-    let x = random(m, i, 8, 18);
-    if x == 17 {
+    let x = random(m, i, 8, 25);
+    if x == 24 {
         past(random(m, i, 9, 6), 9)
     } else {
-        digit(b"01234567800011122", x)
+        digit(b"012345678000011112222447", x)
     }
 }
 
@@ -110,16 +110,6 @@ fn phase(m: &[u64], i: u64) -> u64 {
     let blocks = shape_value(m, 4);
     let fit = if blocks == 0 { 0 } else { bins(m) / blocks };
     argument(m, i, 16, fit)
-}
-
-// A Y block: in the range, and now and then the one before it or one behind it.
-fn block(m: &[u64], i: u64) -> u64 {
-    let start = shape_value(m, 5) % 512;
-    match random(m, i, 20, 40) {
-        0 => less(start, 1),
-        1 => past(random(m, i, 21, 6), start + shape_value(m, 4) % 512),
-        _ => start + random(m, i, 22, shape_value(m, 4)) % 512,
-    }
 }
 
 // A dump's command, an emission's bank, a reading's lag.
@@ -150,7 +140,6 @@ fn of_kind(m: &[u64], i: u64, kind: u64) -> Call {
         a: first_argument(m, i, kind),
         b: second_argument(m, i, kind),
         phase: phase(m, i),
-        block: block(m, i),
     }
 }
 
@@ -165,7 +154,6 @@ fn tick_or_clear(m: &[u64], i: u64) -> Call {
         a: 4,
         b: 0,
         phase: 0,
-        block: shape_value(m, 5),
     }
 }
 

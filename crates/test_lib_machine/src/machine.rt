@@ -26,6 +26,8 @@ use test_lib_rules::call::INTEGRATE;
 use test_lib_rules::call::READING;
 use test_lib_rules::call::TICK;
 use test_lib_rules::call::data_bin;
+use test_lib_rules::call::next_block;
+use test_lib_rules::call::stored_command;
 use test_lib_tools::words::less;
 use test_lib_tools::words::put;
 
@@ -162,9 +164,21 @@ fn set_label(m: &mut [u64], c: u64, command: u64, bank: u64, bin: u64) {
     set_cell(m, c, 3, bin);
 }
 
-// The label, and Open's stamp as Held's.
+// The cell's block moves, and the command becomes its last: of every accepted dump but 111.
+fn count_block(m: &mut [u64], c: u64, command: u64) {
+    let block = next_block(
+        of_cell(m, c, 6),
+        of_cell(m, c, 7),
+        command,
+        shape_value(m, 4),
+    );
+    set_cell(&mut *m, c, 6, block);
+    set_cell(m, c, 7, stored_command(command));
+}
+
+// The label, with the block as it is after the dump's step, and Open's stamp as Held's.
 fn hold(m: &mut [u64], k: Call) {
-    let bin = data_bin(k, shape_value(m, 4), shape_value(m, 5));
+    let bin = data_bin(k.phase, shape_value(m, 4), of_cell(m, k.cell, 6));
     let stamp = of_cell(m, k.cell, 4);
     set_label(&mut *m, k.cell, k.a, k.b, bin);
     set_cell(m, k.cell, 5, stamp);
@@ -176,6 +190,7 @@ fn dump(m: &mut [u64], k: Call, answer: u64) {
     if answer == 7 {
         return;
     }
+    count_block(&mut *m, k.cell, k.a);
     if answer == 0 {
         hold(&mut *m, k);
         close(&mut *m, k.cell, HELD);

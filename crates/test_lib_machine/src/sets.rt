@@ -7,8 +7,9 @@
 //     9 to 63  the test's own: which calls it draws, and its counts
 //     64 on    1,024 words for each cell:
 //       0 to 5   Held's flag, command, bank and data bin; the stamps of Open and of Held
-//       6        how many spans
+//       6, 7     the current block, counted from S; the last command + 1, or 0 for none
 //       8 on     state and stamp of each bin
+//       127      how many spans
 //       128 on   spans: first tick × 65,536 + place
 //
 // A cell has room for 896 spans. A tick that finds none is in no set, and the comparison of its memory fails.
@@ -88,7 +89,7 @@ pub fn stamp(m: &[u64], c: u64, k: u64) -> u64 {
 }
 
 fn spans(m: &[u64], c: u64) -> u64 {
-    of_cell(m, c, 6) % 897
+    of_cell(m, c, 127) % 897
 }
 
 fn first(m: &[u64], c: u64, j: u64) -> u64 {
@@ -166,7 +167,7 @@ fn open_span(m: &mut [u64], c: u64, p: u64) {
     if count < 896 {
         let span = 65536 * (time(m) % 4294967296) + p % 65536;
         set_cell(&mut *m, c, 128 + count, span);
-        set_cell(&mut *m, c, 6, count + 1);
+        set_cell(&mut *m, c, 127, count + 1);
     }
 }
 

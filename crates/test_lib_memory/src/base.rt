@@ -1,9 +1,11 @@
-// Work memory that nobody but the test has written: two cells, two data bins for a bank, and every word within its
-// limits. A variant says what differs: is Held occupied, its command, the state of its bin, and is Open full?
+// Work memory that nobody but the test has written: two cells, three data bins for a bank, three blocks from 5 on, and
+// every word within its limits. A variant says what differs: is Held occupied, its command, the state of its bin, and
+// is Open full?
 use lta_spec::Shape;
 use std::num::wrapping_add_u64;
 use test_lib_rules::call::cell_words;
 use test_lib_rules::call::shaped;
+use test_lib_rules::call::stored_command;
 use test_lib_tools::words::less;
 use test_lib_tools::words::mix;
 use test_lib_tools::words::put;
@@ -13,10 +15,10 @@ use test_lib_tools::words::times;
 pub const NOW: u64 = 1000;
 
 // B. Held's label names data bin 0 of bank 1.
-pub const BINS: u64 = 2;
+pub const BINS: u64 = 3;
 
 pub fn shape(n: u64) -> Shape {
-    shaped(2, n, BINS, 1, 0, 4, 0)
+    shaped(2, n, BINS, 3, 5, 4, 0)
 }
 
 // The number of a variant.
@@ -36,12 +38,12 @@ fn full(v: u64) -> bool {
     v / 18 % 2 == 1
 }
 
-// Of bin q: Ready and Filling in bank 0; in bank 1 the variant's, and Free.
+// Of bin q: Ready, Filling and Free in bank 0; in bank 1 the variant's, and Free.
 fn state(v: u64, q: u64) -> u64 {
     match q {
         0 => 2,
         1 => 1,
-        2 => v / 6 % 3,
+        BINS => v / 6 % 3,
         _ => 0,
     }
 }
@@ -63,7 +65,7 @@ fn row_ticks(v: u64, r: u64) -> u64 {
     }
 }
 
-// Flag, label, and the stamps of Open and of Held.
+// Flag, label, and the stamps of Open and of Held; block 6 behind a 001.
 fn head(v: u64, i: u64) -> u64 {
     match i {
         0 => occupied(v),
@@ -71,7 +73,9 @@ fn head(v: u64, i: u64) -> u64 {
         2 => 1,
         3 => 0,
         4 => 900,
-        _ => 800,
+        5 => 800,
+        6 => 1,
+        _ => stored_command(1),
     }
 }
 
@@ -113,11 +117,11 @@ fn behind_rows(n: u64, v: u64, i: u64, rows: u64, row: bool) -> u64 {
 // Of word i of a cell: the word, or the ticks of its row.
 fn cell_word(n: u64, v: u64, i: u64, row: bool) -> u64 {
     let width = 3 + 2 * (n % 256);
-    let rows = 6 + 8 * width;
-    if i < 6 {
+    let rows = 8 + 8 * width;
+    if i < 8 {
         return head(v, i);
     }
-    let at = i - 6;
+    let at = i - 8;
     if i < rows {
         row_part(row_ticks(v, at / width), at % width, i, row)
     } else {
@@ -151,8 +155,8 @@ fn build(mem: &mut [u64], n: u64, v: u64, words: u64, w: u64, x: u64) {
 }
 
 // Memory of a variant, with x as word w, and words behind it that no call is lent.
-pub fn built(n: u64, v: u64, words: u64, w: u64, x: u64) -> [u64; 320] {
-    let mut mem = [0u64; 320];
+pub fn built(n: u64, v: u64, words: u64, w: u64, x: u64) -> [u64; 384] {
+    let mut mem = [0u64; 384];
     build(&mut mem, n, v, words, w, x);
     mem
 }

@@ -1,10 +1,12 @@
 // What a call says to any words of work memory: the first refusal that applies, or 100 and its answer.
 use crate::map::BANK;
 use crate::map::BIN;
+use crate::map::BLOCK;
 use crate::map::COMMAND;
 use crate::map::FLAG;
 use crate::map::HELD;
 use crate::map::HELD_STAMP;
+use crate::map::LAST_COMMAND;
 use crate::map::OPEN;
 use crate::map::OPEN_STAMP;
 use crate::map::bin;
@@ -154,6 +156,13 @@ fn dump_loss(cell: &[u64], command: u64) -> u64 {
     if get(cell, FLAG) == 1 { 2 } else { 0 }
 }
 
+// "A stored block outside S to S + M - 1 or an unknown last command is 11 in a dump": the command + 1 of 000, 001, 010
+// and 100, or 0 for none.
+fn counter_bad(cell: &[u64], m: u64) -> bool {
+    let last = get(cell, LAST_COMMAND);
+    (get(cell, BLOCK) >= m) | (last == 4) | (last > 5)
+}
+
 // "dump, the cell's Open, Held and losses".
 fn dump_bad(cell: &[u64], n: u64, b: u64, t: u64, command: u64) -> bool {
     let l = dump_loss(cell, command);
@@ -213,10 +222,10 @@ fn integrate_bad(cell: &[u64], n: u64, b: u64, t: u64) -> bool {
 }
 
 // 11, of a call whose arguments are right: "emission, the bin; reading, the losses; forecast, Open".
-fn damaged(cell: &[u64], n: u64, b: u64, t: u64, k: Call) -> bool {
+fn damaged(cell: &[u64], n: u64, b: u64, m: u64, t: u64, k: Call) -> bool {
     let kind = k.kind;
     match kind {
-        DUMP => dump_bad(cell, n, b, t, k.a),
+        DUMP => counter_bad(cell, m) | dump_bad(cell, n, b, t, k.a),
         INTEGRATE => integrate_bad(cell, n, b, t),
         EMIT => bin_bad(cell, n, t, number(b, k.a, k.b)),
         READING => losses_bad(cell, n),
@@ -285,8 +294,8 @@ fn tick_says(mem: &[u64], n: u64, b: u64, cells: u64) -> u64 {
 }
 
 // A call on one cell; "11: t is above 2,147,483,648".
-fn cell_says(cell: &[u64], n: u64, b: u64, t: u64, k: Call) -> u64 {
-    if (t > LONG) | damaged(cell, n, b, t, k) {
+fn cell_says(cell: &[u64], n: u64, b: u64, m: u64, t: u64, k: Call) -> u64 {
+    if (t > LONG) | damaged(cell, n, b, m, t, k) {
         11
     } else {
         answer(cell, n, b, k)
@@ -304,6 +313,6 @@ pub fn says(s: Shape, mem: &[u64], k: Call) -> u64 {
     if k.kind == TICK {
         tick_says(mem, n, b, s.cells)
     } else {
-        cell_says(cell_of(mem, n, b, k.cell), n, b, get(mem, 0), k)
+        cell_says(cell_of(mem, n, b, k.cell), n, b, s.blocks, get(mem, 0), k)
     }
 }

@@ -1,11 +1,12 @@
-// Where each part of a cell stands in its words, by docs/LAYOUT.md; n is N, b is B.
+// Where each part of a cell stands in its words, by docs/LAYOUT.md; n is N, b is B. In due and in
+// test_lib_after m is M.
 use std::num::wrapping_add_u64;
 use test_lib_rules::call::cell_words;
 use test_lib_tools::words::less;
 use test_lib_tools::words::tail;
 use test_lib_tools::words::times;
 
-// Held's flag, its label, the stamps of Open and of Held.
+// Held's flag, its label, the stamps of Open and of Held; the current block, counted from S, and the last command.
 pub const FLAG: u64 = 0;
 
 pub const COMMAND: u64 = 1;
@@ -17,6 +18,10 @@ pub const BIN: u64 = 3;
 pub const OPEN_STAMP: u64 = 4;
 
 pub const HELD_STAMP: u64 = 5;
+
+pub const BLOCK: u64 = 6;
+
+pub const LAST_COMMAND: u64 = 7;
 
 // The rows of a cell: Open, Held, and loss l as row 1 + l.
 pub const OPEN: u64 = 0;
@@ -47,7 +52,7 @@ pub fn cell_of(mem: &[u64], n: u64, b: u64, c: u64) -> &[u64] {
 
 // The first word of row r.
 pub fn row(n: u64, r: u64) -> u64 {
-    6 + times(r, row_words(n)) % 65536
+    8 + times(r, row_words(n)) % 65536
 }
 
 // The first word of the X register (0) or the Y register (1).

@@ -70,7 +70,7 @@ fn behind_rows(m: &[u64], c: u64, i: u64) -> u64 {
     }
 }
 
-// Word i behind the six fields.
+// Word i behind the eight fields.
 fn behind_fields(m: &[u64], c: u64, i: u64) -> u64 {
     let width = 3 + 2 * (lags(m) % 256);
     if i < 8 * width {
@@ -82,10 +82,10 @@ fn behind_fields(m: &[u64], c: u64, i: u64) -> u64 {
 
 // Word i of a cell.
 fn cell_word(m: &[u64], c: u64, i: u64) -> u64 {
-    if i < 6 {
+    if i < 8 {
         of_cell(m, c, i)
     } else {
-        behind_fields(m, c, i - 6)
+        behind_fields(m, c, i - 8)
     }
 }
 

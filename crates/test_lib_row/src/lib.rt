@@ -91,7 +91,16 @@ fn leaves(s: Shape, mem: &[u64], old: &[u64], k: Call, due: u64) -> bool {
     if due < ACCEPTED {
         digest(mem) == digest(old)
     } else {
-        right(mem, old, s.lags, s.bins, s.cells, k, less(due, ACCEPTED))
+        right(
+            mem,
+            old,
+            s.lags,
+            s.bins,
+            s.blocks,
+            s.cells,
+            k,
+            less(due, ACCEPTED),
+        )
     }
 }
 
@@ -102,13 +111,13 @@ fn agrees(s: Shape, mem: &mut [u64], old: &[u64], k: Call, due: u64) -> bool {
 }
 
 // A row: the call on these words answers `due`, which is also what the model says.
-pub fn held_to(t: Tally, s: Shape, old: [u64; 320], k: Call, due: u64) -> Tally {
+pub fn held_to(t: Tally, s: Shape, old: [u64; 384], k: Call, due: u64) -> Tally {
     let mut mem = old;
     let so = agrees(s, &mut mem, &old, k, due);
     row(t, so & (says(s, &old, k) == due), due < ACCEPTED)
 }
 
 // A row in which the model alone says what is due.
-pub fn modelled(t: Tally, s: Shape, old: [u64; 320], k: Call) -> Tally {
+pub fn modelled(t: Tally, s: Shape, old: [u64; 384], k: Call) -> Tally {
     held_to(t, s, old, k, says(s, &old, k))
 }

@@ -1,7 +1,7 @@
-// A call with its arguments, and what document 01 says of them: the refusals that come before any look at the run.
+// A call with its arguments, and what the papers say of them: the refusals that come before any look at the run, and
+// the block and the data bin of a dump.
 use lta_spec::Shape;
 use std::num::wrapping_add_u64;
-use test_lib_tools::words::less;
 use test_lib_tools::words::times;
 
 // An answer stands as 100 + its number, a refusal as its own.
@@ -31,9 +31,8 @@ pub struct Call {
     pub a: u64,
     // A dump's bank, an emission's data bin, a reading's loss.
     pub b: u64,
-    // A dump's phase bin and Y block.
+    // A dump's phase bin.
     pub phase: u64,
-    pub block: u64,
 }
 
 // A shape, by document 01's letters.
@@ -63,29 +62,26 @@ pub fn shape_wrong(s: Shape) -> bool {
 pub fn cell_words(n: u64, bins: u64) -> u64 {
     let lags = n % 256;
     let b = bins % 1024;
-    32 + 17 * lags + 10 * b + 4 * (times(b, lags) % 4294967296)
+    34 + 17 * lags + 10 * b + 4 * (times(b, lags) % 4294967296)
 }
 
 pub fn needed(s: Shape) -> u64 {
     wrapping_add_u64(1, times(s.cells, cell_words(s.lags, s.bins)))
 }
 
-// "Accepted only if S ≤ block < S + M and (phase + 1) × M ≤ B".
-fn bin_wrong(s: Shape, phase: u64, block: u64) -> bool {
-    let blocks = s.blocks;
-    if (block < s.start) | (phase >= s.bins) {
-        return true;
-    }
-    (less(block, s.start) >= blocks) | (times(phase % 1024 + 1, blocks) > s.bins)
+// "Accepted only if .. (phase + 1) × M ≤ B".
+fn phase_wrong(s: Shape, phase: u64) -> bool {
+    (phase >= s.bins) | (times(phase % 1024 + 1, s.blocks) > s.bins)
 }
 
-// "6: command 011, 101, 110 or above 111. 7: bank not 0 or 1, or the data bin rule broken."
+// "6: command 011, 101, 110 or above 111. 7: bank not 0 or 1, or the data bin rule broken", which "concerns only bank
+// and phase".
 fn dump_refusal(s: Shape, k: Call) -> u64 {
     let command = k.a;
     if (command == 3) | (command == 5) | (command == 6) | (command > 7) {
         return 6;
     }
-    if (k.b > 1) | bin_wrong(s, k.phase, k.block) {
+    if (k.b > 1) | phase_wrong(s, k.phase) {
         7
     } else {
         0
@@ -128,7 +124,32 @@ pub fn refusal(s: Shape, k: Call) -> u64 {
     }
 }
 
-// "Data bin = phase × M + (block - S)", of arguments that are accepted.
-pub fn data_bin(k: Call, blocks: u64, start: u64) -> u64 {
-    wrapping_add_u64(times(k.phase, blocks), less(k.block, start))
+// A cell's last command as docs/LAYOUT.md stores it: 0 for none, else the command + 1.
+const NO_COMMAND: u64 = 0;
+
+pub fn stored_command(command: u64) -> u64 {
+    command % 8 + 1
+}
+
+// "It returns to S on 100, and on a 010 whose cell's last command before it was 000 or 001"; "A cell's first dump but
+// 111 in a fresh run uses S".
+fn returns(last: u64, command: u64) -> bool {
+    let saved_or_added = (last == stored_command(0)) | (last == stored_command(1));
+    (last == NO_COMMAND) | (command == 4) | ((command == 2) & saved_or_added)
+}
+
+// The block of a dump but 111, counted from S, where the one before it is given: "any other accepted dump but 111
+// moves it one on, from S + M - 1 back to S".
+pub fn next_block(before: u64, last: u64, command: u64, blocks: u64) -> u64 {
+    let next = before % 4294967296 + 1;
+    if returns(last, command) | (next >= blocks) {
+        0
+    } else {
+        next
+    }
+}
+
+// "Data bin = phase × M + (block - S)", of arguments that are accepted and a block that is counted from S.
+pub fn data_bin(phase: u64, blocks: u64, block: u64) -> u64 {
+    wrapping_add_u64(times(phase, blocks), block)
 }

@@ -1,4 +1,4 @@
-// "Data bin", and sets at the limit of a bin.
+// "Data bin", the block of a dump, and sets at the limit of a bin.
 use crate::limits::plain;
 use lta_spec::Shape;
 use std::num::wrapping_add_u64;
@@ -9,7 +9,9 @@ use test_lib_memory::base::built;
 use test_lib_memory::base::shape;
 use test_lib_memory::base::variant;
 use test_lib_memory::map::BIN;
+use test_lib_memory::map::BLOCK;
 use test_lib_memory::map::HELD;
+use test_lib_memory::map::LAST_COMMAND;
 use test_lib_memory::map::bin_row;
 use test_lib_memory::map::start;
 use test_lib_row::held_to;
@@ -19,111 +21,147 @@ use test_lib_rules::call::DUMP;
 use test_lib_rules::call::INTEGRATE;
 use test_lib_rules::call::needed;
 use test_lib_rules::call::shaped;
+use test_lib_rules::call::stored_command;
 use test_lib_tools::report::Tally;
 use test_lib_tools::report::pick;
 use test_lib_tools::report::row;
 use test_lib_tools::words::digest;
 use test_lib_tools::words::get;
+use test_lib_tools::words::less;
 use test_lib_tools::words::put;
 use test_lib_tools::words::times;
 
-// A case of the data bin rule: the shape's B, M and S, the phase bin and Y block of a dump, and the data bin or,
-// where 7 is due, 1,000.
+// A case of the data bin rule: the shape's B, M and S, the phase bin of a dump, the block that is stored behind a 000,
+// counted from S, and what is due: the data bin with the next block, or 1,000 and a refusal's number.
 struct DumpCase {
     bins: u64,
     blocks: u64,
     start: u64,
     phase: u64,
     block: u64,
-    bin: u64,
+    due: u64,
 }
 
-fn case(bins: u64, blocks: u64, start: u64, phase: u64, block: u64, bin: u64) -> DumpCase {
+fn case(bins: u64, blocks: u64, start: u64, phase: u64, block: u64, due: u64) -> DumpCase {
     DumpCase {
         bins: bins,
         blocks: blocks,
         start: start,
         phase: phase,
         block: block,
-        bin: bin,
+        due: due,
     }
 }
 
-// "no part of a phase bin is used"; "S ≤ block < S + M".
+// "no part of a phase bin is used"; "A stored block outside S to S + M - 1 .. is 11"; 7 where both apply.
 fn near(i: u64) -> DumpCase {
     match i {
-        0 => case(1000, 16, 0, 61, 0, 976),
-        1 => case(1000, 16, 0, 61, 15, 991),
-        2 => case(1000, 16, 0, 61, 16, 1000),
-        3 => case(1000, 16, 0, 62, 0, 1000),
-        4 => case(1000, 4, 0, 249, 3, 999),
-        5 => case(1000, 4, 0, 250, 0, 1000),
+        0 => case(1000, 16, 0, 61, 15, 976),
+        1 => case(1000, 16, 0, 61, 14, 991),
+        2 => case(1000, 16, 0, 61, 16, 1011),
+        3 => case(1000, 16, 0, 62, 15, 1007),
+        4 => case(1000, 4, 0, 249, 2, 999),
+        5 => case(1000, 4, 0, 250, 2, 1007),
         6 => case(1000, 1, 0, 999, 0, 999),
-        7 => case(1000, 1, 0, 1000, 0, 1000),
-        8 => case(5, 2, 3, 0, 3, 0),
-        9 => case(5, 2, 3, 1, 4, 3),
-        10 => case(5, 2, 3, 0, 2, 1000),
-        11 => case(5, 2, 3, 0, 5, 1000),
-        12 => case(5, 2, 3, 2, 3, 1000),
-        13 => case(5, 2, 254, 1, 255, 3),
-        14 => case(5, 2, 254, 1, 256, 1000),
-        _ => case(5, 2, 254, 1, 253, 1000),
+        7 => case(1000, 1, 0, 1000, 0, 1007),
+        8 => case(5, 2, 3, 0, 1, 0),
+        9 => case(5, 2, 3, 1, 0, 3),
+        10 => case(5, 2, 3, 0, 2, 1011),
+        11 => case(5, 2, 3, 0, 3, 1011),
+        12 => case(5, 2, 3, 2, 2, 1007),
+        13 => case(5, 2, 254, 1, 0, 3),
+        14 => case(5, 2, 254, 1, 1, 2),
+        _ => case(5, 2, 254, 1, 254, 1011),
     }
 }
 
 // M above B, three phase bins of 256 blocks, and numbers that would wrap to a good one.
 fn far(i: u64) -> DumpCase {
     match i {
-        16 => case(1, 256, 0, 0, 0, 1000),
-        17 => case(1000, 256, 0, 2, 255, 767),
-        18 => case(1000, 256, 0, 3, 0, 1000),
-        19 => case(2, 1, 0, 18446744073709551615, 0, 1000),
-        20 => case(2, 1, 0, 4294967295, 0, 1000),
-        21 => case(2, 1, 0, 4294967296, 0, 1000),
-        22 => case(2, 2, 0, 9223372036854775807, 0, 1000),
-        23 => case(2, 2, 0, 9223372036854775808, 0, 1000),
-        24 => case(5, 2, 3, 0, 18446744073709551615, 1000),
-        25 => case(5, 2, 3, 0, 4294967295, 1000),
-        26 => case(5, 2, 3, 0, 4294967299, 1000),
-        _ => case(1000, 256, 0, 72057594037927935, 0, 1000),
+        16 => case(1, 256, 0, 0, 0, 1007),
+        17 => case(1000, 256, 0, 2, 254, 767),
+        18 => case(1000, 256, 0, 3, 0, 1007),
+        19 => case(2, 1, 0, 18446744073709551615, 0, 1007),
+        20 => case(2, 1, 0, 4294967295, 0, 1007),
+        21 => case(2, 1, 0, 4294967296, 0, 1007),
+        22 => case(2, 2, 0, 9223372036854775807, 0, 1007),
+        23 => case(2, 2, 0, 9223372036854775808, 0, 1007),
+        24 => case(5, 2, 3, 0, 18446744073709551615, 1011),
+        25 => case(5, 2, 3, 0, 4294967295, 1011),
+        26 => case(5, 2, 3, 0, 4294967296, 1011),
+        _ => case(1000, 256, 0, 72057594037927935, 0, 1007),
     }
 }
 
-fn bin_shape(bins: u64, blocks: u64, start: u64) -> Shape {
-    shaped(1, 2, bins, blocks, start, 4, 0)
-}
-
-// Row i: a kept dump on a fresh run has the data bin in its label; where 7 is due nothing has changed.
+// Row i: a kept dump has the data bin in its label; where it is refused nothing has changed.
 pub fn data_bins(t: Tally, i: u64) -> Tally {
     let r = if i < 16 { near(i) } else { far(i) };
-    let s = bin_shape(r.bins, r.blocks, r.start);
-    let k = Call {
-        kind: DUMP,
-        words: needed(s),
-        bytes: 0,
-        cell: 0,
-        a: 0,
-        b: 1,
-        phase: r.phase,
-        block: r.block,
-    };
-    row(t, labels(s, k, r.bin), r.bin == 1000)
+    let s = shaped(1, 2, r.bins, r.blocks, r.start, 4, 0);
+    let so = dumps(s, 0, r.phase, r.block, stored_command(0), r.due);
+    row(t, so, r.due > 1000)
 }
 
-fn labels(s: Shape, k: Call, due: u64) -> bool {
+// Hexadecimal digit i of a number, the first lowest.
+fn digit(digits: u64, i: u64) -> u64 {
+    (digits >> (4 * (i % 16))) % 16
+}
+
+// The block after a dump where there are three, counted from S: three digits for each last command (none, 000, 001,
+// 010 and 100), one for each block before it.
+fn block_due(command: u64, i: u64) -> u64 {
+    match command {
+        0 | 1 => digit(0x021_021_021_021_000, i),
+        2 => digit(0x021_021_000_000_000, i),
+        4 => 0,
+        _ => i % 3,
+    }
+}
+
+// Row r: command r div 15 of those that are accepted, last command r div 3 mod 5, block r mod 3.
+pub fn blocks(t: Tally, r: u64) -> Tally {
+    let command = digit(0x74210, r / 15);
+    let last = digit(0x53210, r / 3 % 5);
+    let s = shaped(1, 2, 3, 3, 5, 4, 0);
+    let so = dumps(s, command, 0, r % 3, last, block_due(command, r % 15));
+    row(t, so, false)
+}
+
+// Does a dump in a run that is fresh, but for the block and the last command that are stored, do what is due?
+fn dumps(s: Shape, command: u64, phase: u64, block: u64, last: u64, due: u64) -> bool {
+    let k = dump_of(needed(s), command, phase);
     let mut mem = [0u64; 20000];
-    let fresh = ask::setup(s, &mut mem, k.words) == ACCEPTED;
+    put_block(&mut mem, block, last);
     let before = digest(&mem);
     let told = ask::moves(s, &mut mem, k, &[0]);
-    fresh & labelled(&mem, told, before, due)
+    if due > 1000 {
+        return (told == due - 1000) & (digest(&mem) == before);
+    }
+    counted(&mem, told, less(due, times(phase, s.blocks)), due)
+        & ((told == ACCEPTED) == (command < 4))
 }
 
-fn labelled(mem: &[u64], told: u64, before: u64, due: u64) -> bool {
-    if due == 1000 {
-        (told == 7) & (digest(mem) == before)
-    } else {
-        (told == ACCEPTED) & (get(mem, 1 + BIN) == due)
+fn dump_of(words: u64, command: u64, phase: u64) -> Call {
+    Call {
+        kind: DUMP,
+        words: words,
+        bytes: 0,
+        cell: 0,
+        a: command,
+        b: 1,
+        phase: phase,
     }
+}
+
+// The block of cell 0 and its last command, as they are stored.
+fn put_block(mem: &mut [u64], block: u64, last: u64) {
+    put(&mut *mem, 1 + BLOCK, block);
+    put(mem, 1 + LAST_COMMAND, last);
+}
+
+// Is the block as it is due, and the data bin in the label of a dump that is kept?
+fn counted(mem: &[u64], told: u64, block: u64, bin: u64) -> bool {
+    let labelled = (told != ACCEPTED) | (get(mem, 1 + BIN) == bin);
+    (told >= ACCEPTED) & labelled & (get(mem, 1 + BLOCK) == block)
 }
 
 // The ticks of a bin and of Held: six pairs, of which the second, fourth and sixth pass 16,777,215 by one.
@@ -158,9 +196,9 @@ fn loss(pair: u64, command: u64) -> u64 {
 }
 
 // The memory of a pair with a command.
-fn memory(pair: u64, command: u64) -> [u64; 320] {
+fn memory(pair: u64, command: u64) -> [u64; 384] {
     let old = built(2, variant(1, command, 1, 0), needed(shape(2)), 0, NOW);
-    let filled = with_set(old, bin_row(2, 2), bin_size(pair));
+    let filled = with_set(old, bin_row(2, BINS), bin_size(pair));
     with_set(filled, test_lib_memory::map::row(2, HELD), held_size(pair))
 }
 
@@ -180,7 +218,7 @@ fn put_set(mem: &mut [u64], at: u64, ticks: u64) {
 }
 
 // Memory with such a row.
-fn with_set(old: [u64; 320], at: u64, ticks: u64) -> [u64; 320] {
+fn with_set(old: [u64; 384], at: u64, ticks: u64) -> [u64; 384] {
     let mut mem = old;
     put_set(&mut mem, at, ticks);
     mem

@@ -228,7 +228,6 @@ pub fn plain(kind: u64, cell: u64, a: u64, b: u64, phase: u64) -> Call {
         a: a,
         b: b,
         phase: phase,
-        block: 0,
     }
 }
 
@@ -256,22 +255,21 @@ fn with(kind: u64, p: u64, v: u64) -> Call {
     let k = plain(kind, 1, first, 1, 0);
     Call {
         kind: kind,
-        words: pick(p == 5, v, k.words),
-        bytes: pick(p == 6, v % 65536, k.bytes),
+        words: pick(p == 4, v, k.words),
+        bytes: pick(p == 5, v % 65536, k.bytes),
         cell: pick(p == 0, v, 1),
         a: pick(p == 1, v, k.a),
         b: pick(p == 2, v, pick(kind == 3, 0, 1)),
         phase: pick(p == 3, v, 0),
-        block: pick(p == 4, v, 0),
     }
 }
 
-// Row r: kind r div 98, argument r div 14 mod 7, value r mod 14. The sixth is the length of memory, where a length
-// that the test cannot lend is cut to one that it can; the seventh the bytes lent.
+// Row r: kind r div 84, argument r div 14 mod 6, value r mod 14. The fifth is the length of memory, where a length
+// that the test cannot lend is cut to one that it can; the sixth the bytes lent.
 pub fn arguments(t: Tally, r: u64) -> Tally {
-    let p = r / 14 % 7;
+    let p = r / 14 % 6;
     let v = get(&ARGUMENTS, r % 14);
-    let k = with(r / 98 % 6, p, pick(p > 4, v % 512 % 300, v));
+    let k = with(r / 84 % 6, p, pick(p > 3, v % 512 % 300, v));
     let old = built(2, variant(r / 7, 1, 2, 0), needed(shape(2)), 0, NOW);
     modelled(t, shape(2), old, k)
 }

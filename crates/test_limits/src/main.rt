@@ -9,14 +9,15 @@ use test_lib_tools::report::verdict;
 use test_lib_tools::words::get;
 
 // How many rows a group has; each may count as some.
-const ROWS: [u64; 4] = [60, 28, 588, 18];
+const ROWS: [u64; 5] = [60, 28, 75, 504, 18];
 
 // Row i of group g.
 fn one(t: Tally, g: u64, i: u64) -> Tally {
     match g {
         0 => limits::shapes(t, i),
         1 => binning::data_bins(t, i),
-        2 => limits::arguments(t, i),
+        2 => binning::blocks(t, i),
+        3 => limits::arguments(t, i),
         _ => binning::wide(t, i),
     }
 }
@@ -34,13 +35,14 @@ fn rows(g: u64) -> Tally {
 
 // The line of group g, whose name is here in eight bytes. The shapes have N of their own, the others N = 2.
 fn shown(failed: u64, g: u64) -> u64 {
-    let names = b"shapes  data binargumentwide    ";
+    let names = b"shapes  data binblocks  argumentwide    ";
     line(failed, 2, names, g, rows(g))
 }
 
 fn main() {
     let shapes = shown(0, 0);
     let bins = shown(shapes, 1);
-    let arguments = shown(bins, 2);
-    verdict(shown(arguments, 3));
+    let blocks = shown(bins, 2);
+    let arguments = shown(blocks, 3);
+    verdict(shown(arguments, 4));
 }

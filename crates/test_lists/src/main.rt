@@ -37,7 +37,7 @@ fn listed(l: u64) -> Shape {
         2 => shaped(2, 4, 5, 2, 3, 256000000, 2147483647),
         3 => shaped(3, 6, 5, 1, 255, 4, 7),
         4 => shaped(4, 16, 2, 2, 254, 1, 2147483647),
-        5 => shaped(16, 2, 1, 1, 17, 1000, 5),
+        5 => shaped(16, 2, 6, 3, 17, 1000, 5),
         6 => shaped(16, 128, 1, 1, 0, 256000000, 0),
         7 => shaped(1, 128, 5, 4, 100, 1, 99),
         8 => shaped(3, 16, 5, 5, 1, 7, 1),
@@ -81,7 +81,7 @@ fn begin(m: &mut [u64], l: u64) {
 // Words of no meaning, which setup clears.
 fn fill_words(mem: &mut [u64]) {
     let mut i: u64 = 0;
-    while i < 43700 {
+    while i < 43800 {
         put(&mut *mem, i, mix(i, 7));
         i += 1;
     }
@@ -135,7 +135,7 @@ fn list_line(m: &[u64]) {
 
 // List l.
 fn list(m: &mut [u64], l: u64) -> u64 {
-    let mut mem = [0u64; 43700];
+    let mut mem = [0u64; 43800];
     start(&mut mem, &mut *m, l);
     parts(&mut mem, &mut *m);
     list_line(m);

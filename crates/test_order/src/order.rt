@@ -1,5 +1,5 @@
 // "Where several apply, the order stands after each group": each call with every choice of the defects that it may be
-// told of. The first in document 01's order is due.
+// told of. The first in document 01's order is due. A dump comes three times, with another word damaged.
 use lta_spec::Shape;
 use std::num::wrapping_add_u64;
 use test_lib_memory::base::BINS;
@@ -8,7 +8,9 @@ use test_lib_memory::base::built;
 use test_lib_memory::base::shape;
 use test_lib_memory::base::variant;
 use test_lib_memory::due::says;
+use test_lib_memory::map::BLOCK;
 use test_lib_memory::map::HELD_STAMP;
+use test_lib_memory::map::LAST_COMMAND;
 use test_lib_memory::map::OPEN_STAMP;
 use test_lib_memory::map::bin;
 use test_lib_memory::map::loss;
@@ -19,6 +21,7 @@ use test_lib_row::held_to;
 use test_lib_rules::call::Call;
 use test_lib_rules::call::DUMP;
 use test_lib_rules::call::EMIT;
+use test_lib_rules::call::FORECAST;
 use test_lib_rules::call::INTEGRATE;
 use test_lib_rules::call::READING;
 use test_lib_rules::call::TICK;
@@ -124,24 +127,32 @@ fn call(kind: u64, mask: u64) -> Call {
         cell: choose(kind, mask, 5, 2, 1),
         a: argument(kind, mask),
         b: second(kind, mask),
-        phase: 1,
-        block: 0,
+        phase: 0,
     }
 }
 
-// The word of the last cell that 11 is told of: a register entry, Open's stamp, Held's, the bin's, the ticks of a loss.
-fn damaged(kind: u64) -> u64 {
-    match kind {
+// The kind of call of group g.
+fn kind_of(g: u64) -> u64 {
+    if g > FORECAST { DUMP } else { g }
+}
+
+// The word of the last cell that 11 is told of in group g: a register entry, Open's stamp, Held's, the bin's, the
+// ticks of a loss, the current block, the last command.
+fn damaged(g: u64) -> u64 {
+    match g {
         TICK => register(LAGS, 1),
         INTEGRATE => HELD_STAMP,
-        EMIT => wrapping_add_u64(bin(LAGS, 2), 1),
+        EMIT => wrapping_add_u64(bin(LAGS, BINS), 1),
         READING => row(LAGS, loss(6)),
+        6 => BLOCK,
+        7 => LAST_COMMAND,
         _ => OPEN_STAMP,
     }
 }
 
-// Memory of a Ready bin, and of a Held that is occupied and empty; 4: t is 2,147,483,648; 9: a bin that is Filling.
-fn memory(kind: u64, mask: u64) -> [u64; 320] {
+// Memory of a Ready bin, and of a Held that is occupied and empty; 4: t is 2,147,483,648; 9: a bin that is Filling;
+// 11: a word of the last cell is damaged.
+fn memory(kind: u64, mask: u64, word: u64) -> [u64; 384] {
     let v = variant(
         choose(kind, mask, 8, 0, 1),
         1,
@@ -153,7 +164,7 @@ fn memory(kind: u64, mask: u64) -> [u64; 320] {
     if has(kind, mask, 11) {
         put(
             &mut mem,
-            wrapping_add_u64(start(LAGS, BINS, 1), damaged(kind)),
+            wrapping_add_u64(start(LAGS, BINS, 1), word),
             2147483649,
         );
     }
@@ -161,15 +172,16 @@ fn memory(kind: u64, mask: u64) -> [u64; 320] {
 }
 
 // What is due: the first defect in the call's order, or what the model says where there is none.
-fn due(told: u64, s: Shape, old: [u64; 320], k: Call) -> u64 {
+fn due(told: u64, s: Shape, old: [u64; 384], k: Call) -> u64 {
     if told == 0 { says(s, &old, k) } else { told }
 }
 
-// Row r: kind r div 128, mask r mod 128.
+// Row r: group r div 128, mask r mod 128.
 pub fn refusals(t: Tally, r: u64) -> Tally {
-    let kind = r / 128 % 6;
+    let g = r / 128 % 8;
+    let kind = kind_of(g);
     let mask = r % 128;
-    let old = memory(kind, mask);
+    let old = memory(kind, mask, damaged(g));
     let k = call(kind, mask);
     let s = lent(kind, mask);
     held_to(t, s, old, k, due(first(kind, mask), s, old, k))

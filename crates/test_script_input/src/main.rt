@@ -9,7 +9,7 @@ use script_lines::text;
 
 // A script from a file descriptor, through the block lent.
 fn stream(fd: i32, block: &mut [u8]) {
-    let mut mem = [0u64; 103];
+    let mut mem = [0u64; 105];
     let Started::Fresh = lta::setup(shape(), &mut mem) else {
         return;
     };
@@ -21,7 +21,7 @@ fn file(name: &[u8]) {
     text(b"-- ");
     text(name);
     text(b"\n");
-    let mut block = [0u8; 8];
+    let mut block = [0u8; 7];
     let fd = os::open_read(name);
     stream(fd, &mut block);
     libc::close(fd);

@@ -54,6 +54,29 @@ pub fn all_le(s: &[u64], at: usize, n: usize, b: u64) -> bool
     acc < 9223372036854775808
 }
 
+// Is each of the 2n words at `at` at most b? As above, with x + (2^63 - 1 - b) for b - x. Two words a turn, n apart,
+// and the two kinds of top bits gathered apart: the processor takes a long row so at its best, a short one as above.
+fn pairs_le(s: &[u64], at: usize, n: usize, b: u64) -> bool
+    requires { ⌜ (at + 2 * n ≤ length (now s)) × (b < 9223372036854775808) ⌝ }
+    ensures { λ r. ⌜ r ≡ every (atMost b) (part at (2 * n) (now (s .entry))) ⌝ }
+{
+    if n < 8 {
+        return all_le(s, at, 2 * n, b);
+    }
+    let room = 9223372036854775807 - b;
+    let mut high: u64 = 0;
+    let mut over: u64 = 0;
+    let mut i: usize = 0;
+    while i < n {
+        let x = s[at + i];
+        let y = s[at + n + i];
+        high = high | x | y;
+        over = over | std::num::wrapping_add_u64(x, room) | std::num::wrapping_add_u64(y, room);
+        i += 1;
+    }
+    (high | over) < 9223372036854775808
+}
+
 // Is the row of n lags at `at` within its limits: ticks, counts, and sums of at most 196 a tick?
 pub fn row_ok(s: &[u64], at: usize, n: usize, limit: u64) -> bool
     requires { ⌜ (at + rowWords n ≤ length (now s)) × (limit ≤ runLimit) × (n ≤ 128) ⌝ }
@@ -64,7 +87,7 @@ pub fn row_ok(s: &[u64], at: usize, n: usize, limit: u64) -> bool
         return false;
     }
     let few = (s[at + 1] <= ticks) & (s[at + 2] <= ticks);
-    few & all_le(s, at + 3, 2 * n, 196 * ticks)
+    few & pairs_le(s, at + 3, n, 196 * ticks)
 }
 
 // Is each of the n words at `at` an entry that a sampler byte gives?

@@ -3,9 +3,9 @@ use std::ops::Range;
 
 use lta::{Loss, Moved};
 
-use super::layout::{Layout, BANK, COMMAND, DATA_BIN, HELD_STAMP, OCCUPIED, OPEN_STAMP};
+use super::layout::{Layout, BANK, BLOCK, COMMAND, DATA_BIN, HELD_STAMP, LAST_COMMAND, OCCUPIED, OPEN_STAMP};
 use super::row::{add_tick, move_row, register_ok, row_ok, shift};
-use super::{BIN_LIMIT, DISCARD, FILLING, FREE, IDLE, LAST, OPEN_LIMIT, READY, RUN_LIMIT, SAVE};
+use super::{ADD, BIN_LIMIT, DISCARD, FILLING, FREE, IDLE, LAST, OPEN_LIMIT, READY, RUN_LIMIT, SAVE};
 
 /// The words of a cell, to be tested.
 #[derive(Clone, Copy)]
@@ -52,6 +52,11 @@ impl CellRef<'_> {
             && (0..self.layout.bins as i64).contains(&self.words[DATA_BIN])
     }
 
+    /// The last command is none, 000, 001, 010 or 100.
+    fn block_ok(&self) -> bool {
+        (0..self.layout.blocks).contains(&self.words[BLOCK]) && matches!(self.words[LAST_COMMAND], 0..=3 | 5)
+    }
+
     pub fn bin_ok(&self, t: i64, number: usize) -> bool {
         let row = &self.words[self.layout.bin_row(number)];
         let state_ok = match self.words[self.layout.state(number)] {
@@ -72,7 +77,8 @@ impl CellRef<'_> {
     }
 
     pub fn dump_ok(&self, t: i64, command: u64) -> bool {
-        if !(self.open_ok(t) && self.held_ok(t) && self.label_ok() && self.losses_ok()) {
+        let held_ok = self.held_ok(t) && self.label_ok();
+        if !(self.open_ok(t) && held_ok && self.block_ok() && self.losses_ok()) {
             return false;
         }
         let open = self.ticks(self.layout.open());
@@ -145,10 +151,20 @@ impl Cell<'_> {
         full
     }
 
-    pub fn dump(&mut self, t: i64, command: u64, bank: u64, bin: u64) -> Moved {
+    /// The block's step at a dump that is not idle, and the last command from then on.
+    fn step_block(&mut self, command: u64) {
+        let (next, last) = (self.words[BLOCK] + 1, self.words[LAST_COMMAND]);
+        let adding = last == SAVE as i64 + 1 || last == ADD as i64 + 1;
+        let returns = last == 0 || command == DISCARD || (command == LAST && adding);
+        self.words[BLOCK] = if returns || next == self.layout.blocks { 0 } else { next };
+        self.words[LAST_COMMAND] = command as i64 + 1;
+    }
+
+    pub fn dump(&mut self, t: i64, command: u64, bank: u64, phase: u64) -> Moved {
         if command == IDLE {
             return Moved::Idle;
         }
+        self.step_block(command);
         let stamp = std::mem::replace(&mut self.words[OPEN_STAMP], t);
         if command == DISCARD {
             return self.lose(self.layout.open(), Loss::Ordered);
@@ -159,7 +175,7 @@ impl Cell<'_> {
         self.words[OCCUPIED] = 1;
         self.words[COMMAND] = command as i64;
         self.words[BANK] = bank as i64;
-        self.words[DATA_BIN] = bin as i64;
+        self.words[DATA_BIN] = phase as i64 * self.layout.blocks + self.words[BLOCK];
         self.words[HELD_STAMP] = stamp;
         self.move_row(self.layout.open(), self.layout.held());
         Moved::Kept

@@ -9,11 +9,16 @@ pub const BANK: usize = 2;
 pub const DATA_BIN: usize = 3;
 pub const OPEN_STAMP: usize = 4;
 pub const HELD_STAMP: usize = 5;
-const HEAD: usize = 6;
+/// The current block, as its offset from S.
+pub const BLOCK: usize = 6;
+/// One more than the last command, or 0 where there is none.
+pub const LAST_COMMAND: usize = 7;
+const HEAD: usize = 8;
 
 #[derive(Clone, Copy)]
 pub struct Layout {
     pub bins: usize,
+    pub blocks: i64,
     row: usize,
     depth: usize,
 }
@@ -21,7 +26,8 @@ pub struct Layout {
 impl Layout {
     pub fn new(shape: &Shape) -> Layout {
         let lags = shape.lags as usize;
-        Layout { bins: shape.bins as usize, row: 3 + 2 * lags, depth: lags / 2 + 1 }
+        let (bins, blocks) = (shape.bins as usize, shape.blocks as i64);
+        Layout { bins, blocks, row: 3 + 2 * lags, depth: lags / 2 + 1 }
     }
 
     /// The words of a cell.

@@ -1,5 +1,5 @@
 //! Altered work memory: words changed to values near their limits. Refusal 11 is given exactly by the clauses of
-//! document 01 on the parts that the call tests, and what is bad elsewhere is kept as it is.
+//! document 01 and request 2026-01 on the parts that the call tests, and what is bad elsewhere is kept as it is.
 use crate::call::{agrees, Call, Reply, Shape};
 use crate::damage;
 use crate::driver::{fresh, perform};
@@ -14,9 +14,10 @@ const RUNS: u64 = 4_000;
 const ALTERATIONS: usize = 250;
 
 /// A value for a word, at or next to a limit of its kind.
-fn near_limit(random: &mut Random, kind: Kind, mem: &[u64], bins: u64) -> u64 {
+fn near_limit(random: &mut Random, kind: Kind, mem: &[u64], shape: &Shape) -> u64 {
     let t = mem[0];
     let far = random.extreme();
+    let Shape { bins, blocks, .. } = *shape;
     match kind {
         Kind::Time => random.pick(&[RUN_LIMIT - 1, RUN_LIMIT, RUN_LIMIT + 1, t.wrapping_sub(1), 0, far]),
         Kind::Flag => random.pick(&[0, 1, 1, 2, far]),
@@ -24,6 +25,8 @@ fn near_limit(random: &mut Random, kind: Kind, mem: &[u64], bins: u64) -> u64 {
         Kind::Bank => random.pick(&[0, 1, 2, far]),
         Kind::DataBin => random.pick(&[0, bins - 1, bins, bins + 1, far]),
         Kind::Stamp => random.pick(&[0, t, t.wrapping_add(1), far]),
+        Kind::Block => random.pick(&[0, blocks - 1, blocks - 1, blocks, blocks + 1, far]),
+        Kind::LastCommand => random.pick(&[0, 1, 2, 3, 4, 5, 6, 8, far]),
         Kind::State => random.pick(&[0, 1, 1, 2, 2, 3, far]),
         Kind::Entry => random.pick(&[0, 8, 255, 256, far]),
         Kind::Ticks(limit) => {
@@ -43,26 +46,16 @@ fn near_limit(random: &mut Random, kind: Kind, mem: &[u64], bins: u64) -> u64 {
 
 /// The words that an alteration likes to change, since states near limits hang on them.
 fn favourite(kind: Kind) -> bool {
-    matches!(kind, Kind::Flag | Kind::Command | Kind::State | Kind::Stamp | Kind::Ticks(_) | Kind::Time)
+    !matches!(kind, Kind::Bank | Kind::DataBin | Kind::Entry | Kind::Count(_) | Kind::Sum(_))
 }
 
 /// Changes one to four words.
-fn alter(random: &mut Random, kinds: &[Kind], likely: &[usize], mem: &mut [u64], bins: u64) {
+fn alter(random: &mut Random, kinds: &[Kind], likely: &[usize], mem: &mut [u64], shape: &Shape) {
     for _ in 0..random.within(1, 4) {
         let any = random.below(kinds.len() as u64) as usize;
         let at = if random.once_in(2) { any } else { random.pick(likely) };
-        mem[at] = near_limit(random, kinds[at], mem, bins);
+        mem[at] = near_limit(random, kinds[at], mem, shape);
     }
-}
-
-/// A run in the midst of a list.
-fn lively(generator: &mut Generator, shape: &Shape) -> Vec<u64> {
-    let mut mem = fresh(shape);
-    for _ in 0..generator.random.within(0, 120) {
-        let call = generator.call();
-        perform(&shape.numbers(), &mut mem, &call);
-    }
-    mem
 }
 
 struct Altered {
@@ -83,13 +76,24 @@ impl Altered {
         Altered { shape, generator, kinds, likely, model: Run::new(shape) }
     }
 
+    /// A run in the midst of a list.
+    fn lively(&mut self) -> Vec<u64> {
+        let mut mem = fresh(&self.shape);
+        for _ in 0..self.generator.random.within(0, 120) {
+            let call = self.generator.call(&self.model);
+            perform(&self.shape.numbers(), &mut mem, &call);
+            self.model.perform(&call, damage::never);
+        }
+        mem
+    }
+
     /// Alters a copy of the words and makes one call on it.
     fn try_once(&mut self, sound: &[u64], tally: &mut Tally) {
         let mut mem = sound.to_vec();
         let random = &mut self.generator.random;
-        alter(random, &self.kinds, &self.likely, &mut mem, self.shape.bins);
+        alter(random, &self.kinds, &self.likely, &mut mem, &self.shape);
         layout::load(&mut self.model, &mem);
-        let call = self.generator.call();
+        let call = self.generator.call(&self.model);
         let before = mem.clone();
         let reply = perform(&self.shape.numbers(), &mut mem, &call);
         let expected = self.model.perform(&call, damage::found);
@@ -108,8 +112,7 @@ fn altered_memory() {
     let mut tally = Tally::default();
     for list in 0..RUNS {
         let mut altered = Altered::new(list);
-        let shape = altered.shape;
-        let sound = lively(&mut altered.generator, &shape);
+        let sound = altered.lively();
         for _ in 0..ALTERATIONS {
             altered.try_once(&sound, &mut tally);
         }
@@ -135,7 +138,7 @@ fn set_ticks(mem: &mut [u64], kinds: &[Kind], limit: u64, nth: usize, ticks: u64
 fn a_loss_at_its_limit() {
     let shape = Shape { cells: 1, lags: 2, bins: 1, blocks: 1, start: 0, rate: 1, second: 0 };
     let kinds = layout::kinds(shape);
-    let dump = |command| Call::Dump { cell: 0, command, bank: 0, phase: 0, block: 0 };
+    let dump = |command| Call::Dump { cell: 0, command, bank: 0, phase: 0 };
     let integrate = Call::Integrate { cell: 0 };
     let tick = Call::Tick { samples: vec![0; 2] };
     // The call, the ticks of Open, Held and bin, Held's flag and command, the bin's state, and the loss with its part.
@@ -160,6 +163,62 @@ fn a_loss_at_its_limit() {
             let reply = perform(&shape.numbers(), &mut mem, call);
             let refused = reply == Reply::Refused(11);
             assert_eq!(refused, over == 1, "{call:?}, loss {loss}, {over} past it: {reply:?}");
+        }
+    }
+}
+
+/// A run of two cells on which every kind of call on cell 0 is accepted: a set is held, and a bin Ready.
+fn accepting(shape: &Shape) -> Vec<u64> {
+    let mut mem = fresh(shape);
+    let dump = Call::Dump { cell: 0, command: 0b010, bank: 0, phase: 0 };
+    let tick = Call::Tick { samples: vec![0x07; 4] };
+    for call in [&tick, &dump, &Call::Integrate { cell: 0 }, &tick, &dump, &tick] {
+        perform(&shape.numbers(), &mut mem, call);
+    }
+    mem
+}
+
+/// Dumps of the cell are refused by 11 exactly if the word is bad; other calls leave it and do as without it.
+fn with_word(shape: &Shape, at: usize, word: u64, bad: bool) {
+    let mut sound = accepting(shape);
+    let mut altered = sound.clone();
+    altered[at] = word;
+    for command in [0b000, 0b001, 0b010, 0b100, 0b111] {
+        let mut mem = altered.clone();
+        let dump = |cell| Call::Dump { cell, command, bank: 0, phase: 0 };
+        let other = perform(&shape.numbers(), &mut mem, &dump(1));
+        assert!(matches!(other, Reply::Number(_)), "{command:03b} of another cell: {other:?}");
+        let before = mem.clone();
+        let reply = perform(&shape.numbers(), &mut mem, &dump(0));
+        assert_eq!(reply == Reply::Refused(11), bad, "{command:03b}, word {at} as {word}: {reply:?}");
+        assert!(!bad || mem == before, "a refused {command:03b} changed memory");
+    }
+    let (cell, bank, bin, lag, loss) = (0, 0, 0, 0, 1);
+    let emit = Call::Emit { cell, bank, bin, room: shape.frame_length() };
+    let reading = Call::Reading { cell, lag, loss, room: [2, 3] };
+    let tick = Call::Tick { samples: vec![0x05; 4] };
+    for call in [tick, reading, Call::Forecast { cell }, emit, Call::Integrate { cell }] {
+        let reply = perform(&shape.numbers(), &mut sound, &call);
+        assert!(!matches!(reply, Reply::Refused(_)), "{call:?}: {reply:?}");
+        assert_eq!(perform(&shape.numbers(), &mut altered, &call), reply, "{call:?}, word {at} as {word}");
+        let kept = std::mem::replace(&mut altered[at], sound[at]);
+        assert!(kept == word && altered == sound, "memory after {call:?}, word {at} as {word}");
+        altered[at] = word;
+    }
+}
+
+/// Every last command from 0 to 9, and every block next to a limit.
+#[test]
+fn a_block_and_a_last_command_out_of_their_limits() {
+    for (blocks, start) in [(1, 0), (1, 255), (3, 7), (256, 0)] {
+        let shape = Shape { cells: 2, lags: 2, bins: blocks, blocks, start, rate: 1, second: 0 };
+        let (at, _) = layout::block_of(&Run::new(shape), 0);
+        let far = [1 << 32, 1 << 63, u64::MAX, u64::MAX - start, 0u64.wrapping_sub(start)];
+        for offset in [0, blocks - 1, blocks, blocks + 1, 256].into_iter().chain(far) {
+            with_word(&shape, at, offset, offset >= blocks);
+        }
+        for last in (0..10).chain(far) {
+            with_word(&shape, at + 1, last, ![0, 1, 2, 3, 5].contains(&last));
         }
     }
 }

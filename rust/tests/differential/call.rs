@@ -21,7 +21,7 @@ impl Shape {
         34 + 8 * self.lags as usize
     }
 
-    /// The data bin of a phase bin and a block that the data bin rule accepts.
+    /// The data bin of a phase bin that fits and of one of its blocks.
     pub fn data_bin(&self, phase: u64, block: u64) -> u64 {
         phase * self.blocks + (block - self.start)
     }
@@ -31,7 +31,7 @@ impl Shape {
 #[derive(Clone, Debug)]
 pub enum Call {
     Tick { samples: Vec<u8> },
-    Dump { cell: u64, command: u64, bank: u64, phase: u64, block: u64 },
+    Dump { cell: u64, command: u64, bank: u64, phase: u64 },
     Integrate { cell: u64 },
     Emit { cell: u64, bank: u64, bin: u64, room: usize },
     Reading { cell: u64, lag: u64, loss: u64, room: [usize; 2] },

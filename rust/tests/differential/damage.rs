@@ -1,5 +1,5 @@
 //! Refusal 11, clause by clause: what is damaged in the parts that a call tests.
-use crate::call::Call;
+use crate::call::{Call, Shape};
 use crate::rules::{BIN_LIMIT, DISCARD, FILLING, FREE, LAST, OPEN_LIMIT, PEAK, READY, RUN_LIMIT, SAVE};
 use crate::signed::{Bin, Cell, Row, Run};
 
@@ -35,6 +35,12 @@ fn label_bad(cell: &Cell, bins: u64) -> bool {
     cell.held.command > LAST || cell.held.bank > 1 || cell.held.bin >= bins
 }
 
+/// The current block or the last command.
+fn block_bad(cell: &Cell, shape: &Shape) -> bool {
+    !(shape.start..shape.start + shape.blocks).contains(&cell.block)
+        || cell.last.is_some_and(|command| !matches!(command, SAVE..=LAST | DISCARD))
+}
+
 fn bin_bad(bin: &Bin, t: u64) -> bool {
     bin.state > READY
         || (bin.state == FREE && bin.row.ticks != 0)
@@ -52,8 +58,11 @@ fn tick_finds(cell: &Cell, t: u64) -> bool {
     registers_bad(cell) || open_bad(cell, t) || losses_bad(cell) || (full && passes(&cell.losses[5], 1))
 }
 
-fn dump_finds(cell: &Cell, t: u64, bins: u64, command: u64) -> bool {
-    if open_bad(cell, t) || held_bad(cell, t) || label_bad(cell, bins) || losses_bad(cell) {
+fn dump_finds(cell: &Cell, t: u64, shape: &Shape, command: u64) -> bool {
+    if open_bad(cell, t) || held_bad(cell, t) || label_bad(cell, shape.bins) || losses_bad(cell) {
+        return true;
+    }
+    if block_bad(cell, shape) {
         return true;
     }
     match command {
@@ -94,7 +103,7 @@ pub fn found(run: &Run, call: &Call) -> bool {
     }
     match *call {
         Call::Tick { .. } => run.cells.iter().any(|cell| tick_finds(cell, t)),
-        Call::Dump { cell, command, .. } => dump_finds(run.cell(cell), t, bins, command),
+        Call::Dump { cell, command, .. } => dump_finds(run.cell(cell), t, &run.shape, command),
         Call::Integrate { cell } => integration_finds(run.cell(cell), t, bins),
         Call::Emit { cell, bank, bin, .. } => bin_bad(run.bin(cell, bank, bin), t),
         Call::Reading { cell, .. } => losses_bad(run.cell(cell)),

@@ -51,8 +51,8 @@ fn reading(shape: &[u64], mem: &[u64], (cell, lag, loss): (u64, u64, u64), room:
 pub fn perform(shape: &[u64], mem: &mut [u64], call: &Call) -> Reply {
     match *call {
         Call::Tick { ref samples } => number(ffi::tick(shape, mem, samples)),
-        Call::Dump { cell, command, bank, phase, block } => {
-            number(ffi::dump(shape, mem, cell, command, bank, phase, block))
+        Call::Dump { cell, command, bank, phase } => {
+            number(ffi::dump(shape, mem, cell, command, bank, phase))
         }
         Call::Integrate { cell } => number(ffi::integrate(shape, mem, cell)),
         Call::Emit { cell, bank, bin, room } => emit(shape, mem, (cell, bank, bin), room),

@@ -1,6 +1,7 @@
 //! Random shapes and random calls: most of them accepted, some refused for each reason that a call has.
 use crate::call::{Call, Shape};
 use crate::random::Random;
+use crate::signed::Run;
 
 /// A shape within its limits; often at one of them.
 pub fn shape(random: &mut Random) -> Shape {
@@ -18,6 +19,7 @@ pub fn shape(random: &mut Random) -> Shape {
     };
     let many = random.once_in(100);
     let shape = Shape { bins: if many { 1000 } else { shape.bins }, ..shape };
+    let shape = if random.once_in(20) { with_room(random, shape) } else { shape };
     let shape = with_blocks(random, shape);
     with_times(random, shape)
 }
@@ -38,11 +40,18 @@ pub fn small_shape(random: &mut Random) -> Shape {
     with_times(random, shape)
 }
 
-/// Blocks of which at least one phase bin fits, but for one shape in 20.
+/// Room for 256 blocks in one small cell, whose dumps are so many in a list that they can get round all blocks.
+fn with_room(random: &mut Random, shape: Shape) -> Shape {
+    let bins = random.within(256, 1000);
+    Shape { cells: 1, lags: 2, bins: random.pick(&[256, 1000, bins]), ..shape }
+}
+
+/// Blocks of which at least one phase bin fits, often as many as do, but for one shape in 20.
 fn with_blocks(random: &mut Random, shape: Shape) -> Shape {
-    let fits = random.within(1, shape.bins.min(256));
+    let most = shape.bins.min(256);
+    let fits = random.within(1, most);
     let any = random.within(1, 256);
-    let blocks = if random.once_in(20) { any } else { random.pick(&[1, 1, fits]) };
+    let blocks = if random.once_in(20) { any } else { random.pick(&[1, fits, fits, most]) };
     let start = random.within(0, 256 - blocks);
     Shape { blocks, start: random.pick(&[0, 256 - blocks, start]), ..shape }
 }
@@ -67,19 +76,30 @@ enum Sky {
     Broken,
 }
 
+/// The usual commands of a list, and once in how many dumps there is any other.
+#[derive(Clone, Copy)]
+struct Commands {
+    usual: [u64; 8],
+    other: u64,
+}
+
+const MIXED: Commands = Commands { usual: [0, 1, 1, 2, 2, 2, 4, 7], other: 20 };
+/// 000 and 001 alone, or 010 alone, move a block on and on, all the way round.
+const ADDS: Commands = Commands { usual: [0, 1, 1, 1, 1, 1, 1, 7], other: 200 };
+const LASTS: Commands = Commands { usual: [2, 2, 2, 2, 2, 2, 2, 7], other: 200 };
+
 pub struct Generator {
     pub random: Random,
     pub shape: Shape,
     sky: Sky,
-    /// Cell, bank and data bin of the latest dumps, which are the likely ones to be emitted.
-    recent: [(u64, u64, u64); 4],
-    at: usize,
+    commands: Commands,
 }
 
 impl Generator {
     pub fn new(mut random: Random, shape: Shape) -> Generator {
         let sky = random.pick(&[Sky::Any, Sky::Any, Sky::Loud, Sky::Broken]);
-        Generator { random, shape, sky, recent: [(0, 0, 0); 4], at: 0 }
+        let commands = random.pick(&[MIXED, MIXED, ADDS, LASTS]);
+        Generator { random, shape, sky, commands }
     }
 
     fn sample(&mut self) -> u8 {
@@ -112,26 +132,23 @@ impl Generator {
     }
 
     fn dump(&mut self) -> Call {
-        let Shape { bins, blocks, start, .. } = self.shape;
+        let Shape { bins, blocks, .. } = self.shape;
         let cell = self.argument(self.shape.cells);
-        let usual = self.random.pick(&[0, 1, 1, 2, 2, 2, 4, 7]);
+        let usual = self.random.pick(&self.commands.usual);
         let other = self.random.below(10);
-        let command = if self.random.once_in(20) { other } else { usual };
+        let command = if self.random.once_in(self.commands.other) { other } else { usual };
         let bank = self.argument(2);
         let phases = (bins / blocks).max(1);
         let few = phases.min(3);
         let phase = if self.random.once_in(3) { self.argument(phases) } else { self.random.below(few) };
-        let early = start.wrapping_sub(1);
-        let block = if self.random.once_in(40) { early } else { start.wrapping_add(self.argument(blocks)) };
-        if cell < self.shape.cells && bank < 2 && phase < phases && block.wrapping_sub(start) < blocks {
-            self.recent[self.at % 4] = (cell, bank, self.shape.data_bin(phase, block));
-            self.at += 1;
-        }
-        Call::Dump { cell, command, bank, phase, block }
+        Call::Dump { cell, command, bank, phase }
     }
 
-    fn emit(&mut self) -> Call {
-        let (mut cell, mut bank, mut bin) = self.random.pick(&self.recent);
+    /// Mostly of the bin that the label of a cell's Held names: where it went last is likely to be Ready.
+    fn emit(&mut self, run: &Run) -> Call {
+        let mut cell = self.random.below(self.shape.cells);
+        let label = &run.cell(cell).held;
+        let (mut bank, mut bin) = (label.bank, label.bin);
         if self.random.once_in(8) {
             cell = self.argument(self.shape.cells);
             bank = self.argument(2);
@@ -159,13 +176,13 @@ impl Generator {
         Call::Reading { cell, lag, loss, room }
     }
 
-    /// One call, a tick in about half of the cases.
-    pub fn call(&mut self) -> Call {
+    /// One call on this run, a tick in about half of the cases.
+    pub fn call(&mut self, run: &Run) -> Call {
         match self.random.below(32) {
             0..=15 => Call::Tick { samples: self.samples() },
             16..=21 => self.dump(),
             22..=26 => Call::Integrate { cell: self.argument(self.shape.cells) },
-            27..=28 => self.emit(),
+            27..=28 => self.emit(run),
             29..=30 => self.reading(),
             _ => Call::Forecast { cell: self.argument(self.shape.cells) },
         }

@@ -1,6 +1,6 @@
 //! The words of a run by docs/LAYOUT.md. Both ways round lose nothing, whatever the words are.
 use crate::call::Shape;
-use crate::rules::{BIN_LIMIT, OPEN_LIMIT, PEAK, RUN_LIMIT};
+use crate::rules::{cell_words, BIN_LIMIT, OPEN_LIMIT, PEAK, RUN_LIMIT};
 use crate::signed::{Cell, Row, Run};
 
 /// What a word is.
@@ -12,6 +12,8 @@ pub enum Kind {
     Bank,
     DataBin,
     Stamp,
+    Block,
+    LastCommand,
     State,
     Entry,
     /// The ticks of a row, which may hold so many.
@@ -51,13 +53,26 @@ fn walk_register(walk: &mut impl Walk, register: &mut [u64]) {
     }
 }
 
-fn walk_cell(walk: &mut impl Walk, cell: &mut Cell) {
+/// A block is its offset from S. A last command is one more than the command, and 0 where there is none.
+fn block_words(cell: &Cell, start: u64) -> [u64; 2] {
+    [cell.block.wrapping_sub(start), cell.last.map_or(0, |command| command + 1)]
+}
+
+fn walk_block(walk: &mut impl Walk, cell: &mut Cell, start: u64) {
+    let [mut offset, mut last] = block_words(cell, start);
+    walk.word(&mut offset, Kind::Block);
+    walk.word(&mut last, Kind::LastCommand);
+    (cell.block, cell.last) = (start.wrapping_add(offset), last.checked_sub(1));
+}
+
+fn walk_cell(walk: &mut impl Walk, cell: &mut Cell, start: u64) {
     walk.word(&mut cell.held.occupied, Kind::Flag);
     walk.word(&mut cell.held.command, Kind::Command);
     walk.word(&mut cell.held.bank, Kind::Bank);
     walk.word(&mut cell.held.bin, Kind::DataBin);
     walk.word(&mut cell.open_stamp, Kind::Stamp);
     walk.word(&mut cell.held.stamp, Kind::Stamp);
+    walk_block(walk, cell, start);
     walk_row(walk, &mut cell.open, OPEN_LIMIT);
     walk_row(walk, &mut cell.held.row, OPEN_LIMIT);
     for loss in &mut cell.losses {
@@ -75,7 +90,7 @@ fn walk_cell(walk: &mut impl Walk, cell: &mut Cell) {
 fn walk_run(walk: &mut impl Walk, run: &mut Run) {
     walk.word(&mut run.t, Kind::Time);
     for cell in &mut run.cells {
-        walk_cell(walk, cell);
+        walk_cell(walk, cell, run.shape.start);
     }
 }
 
@@ -124,6 +139,11 @@ pub fn words(run: &mut Run) -> Vec<u64> {
     let mut store = Store(Vec::new());
     walk_run(&mut store, run);
     store.0
+}
+
+/// Where the words of a cell's current block and last command begin, and what they are in a run.
+pub fn block_of(run: &Run, cell: usize) -> (usize, [u64; 2]) {
+    (1 + cell * cell_words(&run.shape) + 6, block_words(&run.cells[cell], run.shape.start))
 }
 
 /// The run whose words these are.

@@ -9,20 +9,21 @@ use crate::rules::OPEN_LIMIT;
 use crate::signed::Run;
 use crate::tally::Tally;
 
-struct Three {
-    mem: Vec<u64>,
-    model: Run,
+/// The engine, the signed model and the plain machine, given the same calls.
+pub struct Three {
+    pub mem: Vec<u64>,
+    pub model: Run,
     machine: Machine,
     tally: Tally,
 }
 
 impl Three {
-    fn new(shape: Shape) -> Three {
+    pub fn new(shape: Shape) -> Three {
         let (mem, model, machine) = (fresh(&shape), Run::new(shape), Machine::new(shape));
         Three { mem, model, machine, tally: Tally::default() }
     }
 
-    fn perform(&mut self, call: &Call) -> Reply {
+    pub fn perform(&mut self, call: &Call) -> Reply {
         let reply = perform(&self.model.shape.numbers(), &mut self.mem, call);
         for expected in [self.model.perform(call, never), self.machine.perform(call)] {
             assert!(agrees(&reply, &expected), "{call:?}: {reply:?}, expected {expected:?}");
@@ -31,7 +32,7 @@ impl Three {
         reply
     }
 
-    fn compare(&mut self) {
+    pub fn compare(&mut self) {
         assert!(self.machine.summed() == self.model, "sums of the two models");
         assert!(self.mem == layout::words(&mut self.model), "words of memory");
     }
@@ -49,8 +50,8 @@ impl Three {
         held_off
     }
 
-    fn dump(&mut self, cell: u64, command: u64) -> Reply {
-        self.perform(&Call::Dump { cell, command, bank: 0, phase: 0, block: 0 })
+    pub fn dump(&mut self, cell: u64, command: u64) -> Reply {
+        self.perform(&Call::Dump { cell, command, bank: 0, phase: 0 })
     }
 }
 

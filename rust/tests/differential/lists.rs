@@ -1,4 +1,6 @@
 //! Lists of random calls from a fresh run on.
+use std::collections::BTreeSet;
+
 use lta::ffi;
 
 use crate::call::{agrees, Call, Reply, Shape};
@@ -9,8 +11,8 @@ use crate::layout;
 use crate::machine::Machine;
 use crate::random::Random;
 use crate::rules::host_refusal;
-use crate::signed::Run;
-use crate::tally::Tally;
+use crate::signed::{Cell, Run};
+use crate::tally::{Found, Tally};
 
 const LONG_LISTS: u64 = 2_600;
 const LONG_CALLS: usize = 4_000;
@@ -23,6 +25,8 @@ struct Pair {
     numbers: [u64; 7],
     mem: Vec<u64>,
     model: Run,
+    /// The reply to each cell's latest dump.
+    dumped: Vec<Reply>,
 }
 
 impl Pair {
@@ -31,7 +35,8 @@ impl Pair {
         let mem = fresh(&shape);
         assert!(mem == layout::words(&mut model), "a fresh run of {shape:?}");
         let generator = Generator::new(random, shape);
-        Pair { generator, numbers: shape.numbers(), mem, model }
+        let dumped = vec![Reply::Number(0); model.cells.len()];
+        Pair { generator, numbers: shape.numbers(), mem, model, dumped }
     }
 
     /// A call of the engine with another shape or length, which is refused and changes nothing.
@@ -51,16 +56,41 @@ impl Pair {
 
     /// A call of both; the engine's reply must be one that the model allows.
     fn step(&mut self, tally: &mut Tally) -> (Call, Reply) {
-        let call = self.generator.call();
+        let call = self.generator.call(&self.model);
         if self.generator.random.once_in(64) {
             self.refused_host(&call, tally);
         }
+        let found = self.found(&call);
         let reply = perform(&self.numbers, &mut self.mem, &call);
         let expected = self.model.perform(&call, never);
         let shape = self.model.shape;
         assert!(agrees(&reply, &expected), "{call:?} of {shape:?}: {reply:?}, expected {expected:?}");
+        self.compare_blocks(&call);
         tally.count(&call, &reply);
+        if let Some(found) = found {
+            tally.count_step(&shape, &found, self.model.cells[found.cell].block, &reply);
+            self.dumped[found.cell] = reply.clone();
+        }
         (call, reply)
+    }
+
+    /// What a dump finds in its cell, if the run has that cell.
+    fn found(&self, call: &Call) -> Option<Found> {
+        let Call::Dump { cell, command, .. } = *call else {
+            return None;
+        };
+        let cell = usize::try_from(cell).ok()?;
+        let &Cell { block, last, .. } = self.model.cells.get(cell)?;
+        Some(Found { cell, command, block, last, reply: self.dumped[cell].clone() })
+    }
+
+    /// The current block and the last command of each cell.
+    fn compare_blocks(&self, call: &Call) {
+        for cell in 0..self.model.cells.len() {
+            let (at, expected) = layout::block_of(&self.model, cell);
+            let shape = self.model.shape;
+            assert_eq!(self.mem[at..at + 2], expected, "cell {cell} of {shape:?} after {call:?}");
+        }
     }
 
     fn compare_words(&mut self) {
@@ -77,9 +107,11 @@ impl Pair {
 fn ten_million_calls() {
     let mut tally = Tally::default();
     let mut words: u64 = 0;
+    let mut shapes = Vec::new();
     for list in 0..LONG_LISTS {
         let mut random = Random::new(list);
         let shape = generator::shape(&mut random);
+        shapes.push(shape);
         let mut pair = Pair::new(random, shape);
         let interval = 200.max(pair.mem.len() / 20);
         for call in 1..=LONG_CALLS {
@@ -94,6 +126,20 @@ fn ten_million_calls() {
     println!("  {LONG_LISTS} shapes, {words} words of memory compared");
     assert!(tally.total() >= 10_000_000);
     check_outcomes(&tally);
+    check_shapes(&shapes);
+    tally.stepped(500);
+    tally.met("block", &["from the last of 256"]);
+}
+
+/// Of the shapes that a phase bin fits, M reaches both of its ends, and S is often above 0.
+fn check_shapes(shapes: &[Shape]) {
+    let fitting: Vec<_> = shapes.iter().filter(|shape| shape.blocks <= shape.bins).collect();
+    let blocks: BTreeSet<u64> = fitting.iter().map(|shape| shape.blocks).collect();
+    let started = fitting.iter().filter(|shape| shape.start > 0).count();
+    let (fit, values) = (fitting.len(), blocks.len());
+    println!("  a phase bin fits {fit} shapes: {values} values of M, S above 0 in {started}");
+    assert_eq!((blocks.first(), blocks.last()), (Some(&1), Some(&256)), "values of M");
+    assert!(2 * started > shapes.len(), "{started} shapes with S above 0");
 }
 
 /// Everything has happened that can in a list without limits reached or memory altered.
@@ -129,4 +175,5 @@ fn the_plain_machine_on_short_lists() {
         }
     }
     tally.print("short lists, with the plain machine");
+    tally.stepped(20);
 }

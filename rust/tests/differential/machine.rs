@@ -48,6 +48,9 @@ struct Cell {
     occupied: bool,
     label: Label,
     held: Place,
+    /// The current block, and the last command.
+    block: u64,
+    last: Option<u64>,
     /// State and place of each bin, bank 0 first.
     bins: Vec<(u64, Place)>,
     losses: [Set; 6],
@@ -73,16 +76,29 @@ impl Cell {
         loss
     }
 
-    fn dump(&mut self, t: u64, label: Label) -> u64 {
-        if label.command == 0b111 {
+    /// The block of a dump with another command than 111.
+    fn block_of(&self, shape: &Shape, command: u64) -> u64 {
+        let Some(last) = self.last else {
+            return shape.start;
+        };
+        if command == 0b100 || (command == 0b010 && last < 0b010) {
+            return shape.start;
+        }
+        shape.start + (self.block - shape.start + 1) % shape.blocks
+    }
+
+    fn dump(&mut self, t: u64, shape: &Shape, command: u64, bank: u64, phase: u64) -> u64 {
+        if command == 0b111 {
             return 7;
         }
+        (self.block, self.last) = (self.block_of(shape, command), Some(command));
         let open = take(&mut self.open);
         self.open.stamp = t;
-        match (label.command, self.occupied) {
+        match (command, self.occupied) {
             (0b100, _) => self.lose(1, open.set),
             (_, true) => self.lose(2, open.set),
             (_, false) => {
+                let label = Label { command, bank, bin: shape.data_bin(phase, self.block) };
                 (self.occupied, self.label, self.held) = (true, label, open);
                 0
             }
@@ -136,7 +152,7 @@ fn weights(d: i32) -> [i64; 2] {
 impl Machine {
     pub fn new(shape: Shape) -> Machine {
         let bins = vec![(FREE, Place::default()); 2 * shape.bins as usize];
-        let cell = Cell { bins, ..Cell::default() };
+        let cell = Cell { bins, block: shape.start, ..Cell::default() };
         Machine { shape, cells: vec![cell; shape.cells as usize], ticks: Vec::new() }
     }
 
@@ -175,9 +191,8 @@ impl Machine {
                 self.ticks.push(samples.clone());
                 Reply::Number(self.cells.iter_mut().map(|cell| u64::from(cell.tick(t))).sum())
             }
-            Call::Dump { cell, command, bank, phase, block } => {
-                let label = Label { command, bank, bin: shape.data_bin(phase, block) };
-                Reply::Number(self.cells[cell as usize].dump(t, label))
+            Call::Dump { cell, command, bank, phase } => {
+                Reply::Number(self.cells[cell as usize].dump(t, &shape, command, bank, phase))
             }
             Call::Integrate { cell } => Reply::Number(self.cells[cell as usize].integrate(shape.bins)),
             Call::Emit { cell, bank, bin, .. } => self.emit(cell, bank, bin),
@@ -251,6 +266,8 @@ impl Machine {
                 row: self.numbers(c, &place.set),
             };
             signed::Cell {
+                block: cell.block,
+                last: cell.last,
                 open_stamp: cell.open.stamp,
                 open: self.numbers(c, &cell.open.set),
                 held: self.summed_held(c),

@@ -11,6 +11,7 @@ pub const FILLING: u64 = 1;
 pub const READY: u64 = 2;
 
 pub const SAVE: u64 = 0b000;
+pub const ADD: u64 = 0b001;
 pub const LAST: u64 = 0b010;
 pub const DISCARD: u64 = 0b100;
 pub const IDLE: u64 = 0b111;
@@ -34,10 +35,14 @@ fn bad_shape(shape: &[u64]) -> bool {
         || second > 2_147_483_647
 }
 
-/// docs/LAYOUT.md's formula.
+/// docs/LAYOUT.md's formulas: the words of a cell, and of a run.
+pub fn cell_words(shape: &Shape) -> usize {
+    let (n, b) = (shape.lags as usize, shape.bins as usize);
+    34 + 17 * n + 10 * b + 4 * b * n
+}
+
 pub fn words_needed(shape: &Shape) -> usize {
-    let (c, n, b) = (shape.cells as usize, shape.lags as usize, shape.bins as usize);
-    1 + c * (32 + 17 * n + 10 * b + 4 * b * n)
+    1 + shape.cells as usize * cell_words(shape)
 }
 
 /// What the host is told of the seven numbers and of the words lent, if anything: 1, then 2.
@@ -52,9 +57,9 @@ pub fn host_refusal(shape: &[u64], words: usize) -> Option<u32> {
     (words != words_needed(&shape)).then_some(2)
 }
 
-fn breaks_bin_rule(shape: &Shape, phase: u64, block: u64) -> bool {
-    let past = (u128::from(phase) + 1) * u128::from(shape.blocks);
-    block < shape.start || block >= shape.start + shape.blocks || past > u128::from(shape.bins)
+/// No part of a phase bin is used.
+fn breaks_bin_rule(shape: &Shape, phase: u64) -> bool {
+    (u128::from(phase) + 1) * u128::from(shape.blocks) > u128::from(shape.bins)
 }
 
 /// The first refusal of the call's arguments alone, 3 and 5 to 12 without 8 to 11.
@@ -64,9 +69,7 @@ pub fn argument_refusal(shape: &Shape, call: &Call) -> Option<u32> {
         Call::Tick { ref samples } => (samples.len() as u64 != 2 * shape.cells).then_some(3),
         Call::Dump { cell, .. } if no_cell(cell) => Some(5),
         Call::Dump { command: 3 | 5 | 6 | 8.., .. } => Some(6),
-        Call::Dump { bank, phase, block, .. } => {
-            (bank > 1 || breaks_bin_rule(shape, phase, block)).then_some(7)
-        }
+        Call::Dump { bank, phase, .. } => (bank > 1 || breaks_bin_rule(shape, phase)).then_some(7),
         Call::Integrate { cell } | Call::Forecast { cell } => no_cell(cell).then_some(5),
         Call::Emit { cell, .. } if no_cell(cell) => Some(5),
         Call::Emit { bank, bin, .. } => (bank > 1 || bin >= shape.bins).then_some(7),

@@ -3,7 +3,7 @@
 use crate::call::{Call, Reply, Shape};
 use crate::frame;
 use crate::rules::{
-    argument_refusal, BIN_LIMIT, DISCARD, FILLING, FREE, IDLE, LAST, OPEN_LIMIT, READY, RUN_LIMIT, SAVE,
+    argument_refusal, ADD, BIN_LIMIT, DISCARD, FILLING, FREE, IDLE, LAST, OPEN_LIMIT, READY, RUN_LIMIT, SAVE,
 };
 
 /// The weight of a product by the difference of its phases, in sixteenths of a turn.
@@ -41,6 +41,10 @@ pub struct Bin {
 
 #[derive(Clone, Debug, Default, PartialEq, Eq)]
 pub struct Cell {
+    /// The current block.
+    pub block: u64,
+    /// The command of the latest dump that was accepted and not idle, if there was one.
+    pub last: Option<u64>,
     pub open_stamp: u64,
     pub open: Row,
     pub held: Held,
@@ -110,6 +114,8 @@ impl Cell {
         let depth = shape.lags as usize / 2 + 1;
         let bin = Bin { row: row.clone(), ..Bin::default() };
         Cell {
+            block: shape.start,
+            last: None,
             open_stamp: 0,
             open: row.clone(),
             held: Held { row: row.clone(), ..Held::default() },
@@ -130,10 +136,22 @@ impl Cell {
         full
     }
 
-    fn dump(&mut self, t: u64, command: u64, bank: u64, bin: u64) -> u64 {
+    /// The current block after a dump that is not idle, which counts as the last command from now on.
+    fn step(&mut self, shape: &Shape, command: u64) -> u64 {
+        let last = self.last.replace(command);
+        let returns = match (last, command) {
+            (None, _) | (_, DISCARD) | (Some(SAVE | ADD), LAST) => true,
+            _ => self.block + 1 == shape.start + shape.blocks,
+        };
+        self.block = if returns { shape.start } else { self.block + 1 };
+        self.block
+    }
+
+    fn dump(&mut self, t: u64, shape: &Shape, command: u64, bank: u64, phase: u64) -> u64 {
         if command == IDLE {
             return 7;
         }
+        let block = self.step(shape, command);
         let stamp = std::mem::replace(&mut self.open_stamp, t);
         if command == DISCARD {
             self.losses[0].take(&mut self.open);
@@ -144,7 +162,7 @@ impl Cell {
             return 2;
         }
         self.held.row.take(&mut self.open);
-        let row = std::mem::take(&mut self.held.row);
+        let (row, bin) = (std::mem::take(&mut self.held.row), shape.data_bin(phase, block));
         self.held = Held { occupied: 1, command, bank, bin, stamp, row };
         0
     }
@@ -221,9 +239,8 @@ impl Run {
                 let cells = self.cells.iter_mut().zip(samples.chunks_exact(2));
                 Reply::Number(cells.map(|(cell, xy)| u64::from(cell.tick(xy[0], xy[1]))).sum())
             }
-            Call::Dump { cell, command, bank, phase, block } => {
-                let bin = shape.data_bin(phase, block);
-                Reply::Number(self.cells[cell as usize].dump(t, command, bank, bin))
+            Call::Dump { cell, command, bank, phase } => {
+                Reply::Number(self.cells[cell as usize].dump(t, &shape, command, bank, phase))
             }
             Call::Integrate { cell } => Reply::Number(self.cells[cell as usize].integrate(shape.bins)),
             Call::Emit { cell, bank, bin, .. } => self.emit(cell, bank, bin),

@@ -1,11 +1,47 @@
 //! How often each call had each outcome.
 use std::collections::BTreeMap;
 
-use crate::call::{Call, Reply};
+use crate::call::{Call, Reply, Shape};
 
 #[derive(Default)]
 pub struct Tally {
     counts: BTreeMap<(&'static str, String), u64>,
+}
+
+/// The name under which steps of blocks are counted, which are no calls of their own.
+const STEP: &str = "block";
+
+/// A dump of one cell, and what it finds there.
+pub struct Found {
+    pub cell: usize,
+    pub command: u64,
+    pub block: u64,
+    /// The last command before it, if there was one.
+    pub last: Option<u64>,
+    /// The reply to the cell's dump before it.
+    pub reply: Reply,
+}
+
+impl Found {
+    /// The command with the last one before it, and what else there is to be told of the step to this block.
+    fn ways(&self, shape: &Shape, block: u64, reply: &Reply) -> Vec<String> {
+        let last = self.last.map_or("none".to_string(), |last| format!("{last:03b}"));
+        let at_end = shape.blocks > 1 && self.block == shape.start + shape.blocks - 1;
+        let place = if at_end { ", at S + M - 1" } else { "" };
+        let mut ways = vec![format!("{:03b} behind {last}{place}", self.command)];
+        match self.reply {
+            Reply::Number(7) => ways.push("111 between".to_string()),
+            Reply::Refused(_) => ways.push("a refusal between".to_string()),
+            _ => {}
+        }
+        if at_end && shape.blocks == 256 {
+            ways.push("from the last of 256".to_string());
+        }
+        if *reply == Reply::Number(2) && block != self.block {
+            ways.push("moved by an overrun".to_string());
+        }
+        ways
+    }
 }
 
 impl Call {
@@ -42,22 +78,53 @@ impl Tally {
         *self.counts.entry((name, outcome)).or_default() += 1;
     }
 
+    /// The step to this block from the one that a dump found, unless the dump was refused or idle.
+    pub fn count_step(&mut self, shape: &Shape, found: &Found, block: u64, reply: &Reply) {
+        if matches!(reply, Reply::Number(0..=2)) {
+            for way in found.ways(shape, block, reply) {
+                self.add(STEP, way);
+            }
+        }
+    }
+
+    /// How many calls were counted.
     pub fn total(&self) -> u64 {
-        self.counts.values().sum()
+        let calls = self.counts.iter().filter(|((name, _), _)| *name != STEP);
+        calls.map(|(_, count)| count).sum()
     }
 
     pub fn print(&self, title: &str) {
         println!("{title}: {} calls", self.total());
         for ((name, outcome), count) in &self.counts {
-            println!("  {name:10} {outcome:12} {count:>10}");
+            println!("  {name:10} {outcome:30} {count:>10}");
         }
     }
 
     /// Each of these outcomes has been met.
     pub fn met(&self, name: &'static str, outcomes: &[&str]) {
         for outcome in outcomes {
-            let met = self.counts.contains_key(&(name, outcome.to_string()));
-            assert!(met, "no {name} had the outcome {outcome}");
+            assert!(self.times(name, outcome) > 0, "no {name} had the outcome {outcome}");
+        }
+    }
+
+    fn times(&self, name: &'static str, outcome: &str) -> u64 {
+        self.counts.get(&(name, outcome.to_string())).copied().unwrap_or_default()
+    }
+
+    /// Blocks have been stepped so often in each way: by each command as a cell's first, behind each other and from
+    /// S + M - 1 (where no 100 leaves a block), with a 111 or a refused dump between, by an overrun.
+    pub fn stepped(&self, least: u64) {
+        let mut ways = ["111 between", "a refusal between", "moved by an overrun"].map(String::from).to_vec();
+        for command in ["000", "001", "010", "100"] {
+            ways.extend(["none", "100"].map(|last| format!("{command} behind {last}")));
+            for last in ["000", "001", "010"] {
+                let way = format!("{command} behind {last}");
+                ways.extend([format!("{way}, at S + M - 1"), way]);
+            }
+        }
+        for way in ways {
+            let times = self.times(STEP, &way);
+            assert!(times >= least, "{times} blocks were stepped so: {way}");
         }
     }
 }

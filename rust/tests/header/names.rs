@@ -90,7 +90,7 @@ fn the_engine_takes_those_commands_and_no_other() {
     let moved = enumerated(&header(), "lta_moved");
     for command in 0..20 {
         let mut mem = vec![0; SHAPE.words_needed().unwrap()];
-        let answer = ffi::outcome(ffi::dump(&SHAPE.numbers(), &mut mem, 0, command, 0, 0, SHAPE.start));
+        let answer = ffi::outcome(ffi::dump(&SHAPE.numbers(), &mut mem, 0, command, 0, 0));
         let name = commands.iter().find(|(_, number)| *number == command).map(|(name, _)| name.as_str());
         let expected = match name {
             Some("DISCARD") => Ok(Loss::Ordered.number()),
@@ -132,7 +132,7 @@ fn places_of_a_reading() {
     for samples in [[0x02, 0x03], [0x31, 0x07], [0x08, 0x02], [0x05, 0x05], [0x08, 0x08]] {
         run.tick(&samples).unwrap();
     }
-    run.dump(0, Command::Discard, 0, 0, 0).unwrap();
+    run.dump(0, Command::Discard, 0, 0).unwrap();
     let read = |sums: &mut [i64], counts: &mut [u64]| {
         ffi::outcome(ffi::reading(&shape.numbers(), run.words(), 0, 0, 1, sums, counts))
     };

@@ -81,9 +81,9 @@ pub fn perform(shape: &[u64], mem: &mut [u64], call: &[&str]) -> Answer {
         ["need"] => plain(ffi::words_needed(shape)),
         ["setup"] => told(ffi::setup(shape, mem), |answer| answer.to_string()),
         ["tick", samples] => plain(ffi::tick(shape, mem, &bytes(samples)?)),
-        ["dump", "-", cell, command, bank, phase, block, "-"] => {
+        ["dump", "-", cell, command, bank, phase, "-", "-"] => {
             let (cell, command, bank) = (number(cell)?, number(command)?, number(bank)?);
-            plain(ffi::dump(shape, mem, cell, command, bank, number(phase)?, number(block)?))
+            plain(ffi::dump(shape, mem, cell, command, bank, number(phase)?))
         }
         ["integrate", "-", cell] => plain(ffi::integrate(shape, mem, number(cell)?)),
         ["emit", "-", cell, bank, bin, room] => {

@@ -50,9 +50,9 @@ fn every_other_answer_is_seen() {
     assert!(changes > LIST.lines().count());
 }
 
-/// A part of the list, and another in its first place: heads, calls and arguments that are none, a missing answer, a
-/// buffer too short, lengths, a run that is not set up, lines that are missing or too many.
-const CHANGES: [(&str, &str); 14] = [
+/// A part of the list, and another in its first place: heads, calls and arguments that are none, a dump that names a
+/// block, a missing answer, a buffer too short, lengths, a run that is not set up, lines that are missing or too many.
+const CHANGES: [(&str, &str); 15] = [
     ("level ", "level 1"),
     ("shape 2 ", "shape 1 "),
     (" 100 1\n", " 100 2\n"),
@@ -61,6 +61,7 @@ const CHANGES: [(&str, &str); 14] = [
     ("\ntick ", "\ntock "),
     ("\ntick ", "\ntick 0"),
     ("\nintegrate - ", "\nintegrate 0 "),
+    (" 0 - - = 0 0\n", " 0 3 - = 0 0\n"),
     (" = 0 0\n", "\n"),
     (" 66 = 0 66 ", " 65 = 0 66 "),
     (" 100 1 0 need = 1\n", " 100 1 99 need = 1\n"),

@@ -1,4 +1,5 @@
-//! A list of calls with their answers, worked out from document 01 apart from this project, through the C interface.
+//! A list of calls with their answers, worked out from document 01 and the requests up to 2026-01 apart from this
+//! project, through the C interface.
 //!
 //! A line is `CALL ARGS = ANSWER`: decimal numbers, hexadecimal buffers, `-` for no bytes and for an argument that
 //! the call does not have. An answer is a refusal's number, or 0 and the values. The lines:
@@ -8,7 +9,7 @@
 //! setup = 0                                    on the needed words, filled with rubbish
 //! @ C N B M S R Z 1 DELTA CALL .. = 1|2        with this shape and DELTA words more than the run has; need: the size
 //! tick HEX = 0 HELDOFF
-//! dump - CELL COMMAND BANK PHASE BLOCK - = 0 LOSS
+//! dump - CELL COMMAND BANK PHASE - - = 0 LOSS
 //! integrate - CELL = 0 LOSS
 //! emit - CELL BANK BIN ROOM = 0 LENGTH HEX
 //! reading - CELL LAG LOSS = 0 I Q TICKS EDGE CENTRE
@@ -32,26 +33,26 @@ mod words;
 
 use std::collections::BTreeMap;
 
-const LIST: &str = include_str!("level-00.txt");
-const LEVEL: u32 = 0;
+const LIST: &str = include_str!("level-01.txt");
+const LEVEL: u32 = 1;
 
 /// How many lines of each kind the list has.
 const LINES: [(&str, usize); 15] = [
     ("@", 16),
     ("bound", 1),
-    ("dump", 122),
-    ("emit", 42),
+    ("dump", 151),
+    ("emit", 53),
     ("end", 1),
-    ("forecast", 23),
-    ("integrate", 116),
+    ("forecast", 19),
+    ("integrate", 144),
     ("level", 1),
-    ("norm", 3),
-    ("part", 3),
-    ("read", 3),
-    ("reading", 58),
+    ("norm", 4),
+    ("part", 4),
+    ("read", 4),
+    ("reading", 47),
     ("setup", 1),
     ("shape", 1),
-    ("tick", 175),
+    ("tick", 122),
 ];
 
 #[test]

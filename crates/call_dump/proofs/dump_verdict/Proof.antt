@@ -4,7 +4,7 @@ use mathlib.Core.Bool.{Bool}
 use Prim.Native.Nat.{ℕ}
 use denote.Ref.{now}
 use Rattle.lta_spec.specs.Engine.{Unit}
-use Rattle.lta_spec.specs.Damage.{dumpSound}
+use Rattle.lta_spec.specs.Damage.{dumpUnitSound}
 use Rattle.lta_spec.specs.declared.Refusal.the-variants.{BadCommand, NoBin, Damaged}
 use Rattle.call_run.proofs.FirstLaws.{cell-refused, cell-passed}
 use Rattle.call_run.proofs.TestedLaws.{tested-as, cell-sound}
@@ -29,8 +29,8 @@ time-of-requires c κs = c .before .before .cell-verdict .ensures .cell (c .enum
 cell-part-requires : tie.Need-cell-part-requires
 cell-part-requires c κs = c .before .before .before .cell-verdict .ensures .cell (c .before .enum-told .given .1)
 
-dump-sound-requires : tie.Need-dump-sound-requires
-dump-sound-requires c κs = search needs
+unit-sound-requires : tie.Need-unit-sound-requires
+unit-sound-requires c κs = search needs
 
 sound-tested-requires : tie.Need-sound-tested-requires
 sound-tested-requires c κs = search needs
@@ -60,9 +60,9 @@ returns-2 c =
     let d = c .before .before .before .before in
     let x = d .before .before .before .before in
     let a = x .before .before .before .before .args in
-    let f : ℕ → Unit → Bool = λ t u. dumpSound (a .s .lags) (a .s .bins) t (a .command) (u .cell) in
+    let f : ℕ → Unit → Bool = λ t u. dumpUnitSound (a .s .lags) (a .s .bins) (a .s .blocks) t (a .command) u in
     let t = d .before .before .before .time-of .ensures in
-    let sound = cell-sound (d .before .before .cell-part .ensures) f t (d .before .dump-sound .ensures) in
+    let sound = cell-sound (d .before .before .cell-part .ensures) f t (d .before .unit-sound .ensures) in
     rw verdict-is
     (cell-passed _ _ _ _ (x .before .before .cell-verdict .ensures .is) (x .enum-told .given .1)
     (tested-as BadCommand (c .tested2 .ensures) (c .before .command-ok .ensures)
@@ -78,7 +78,7 @@ dump-verdict-spec =
     enum-told
     time-of-requires
     cell-part-requires
-    dump-sound-requires
+    unit-sound-requires
     sound-tested-requires
     bin-rule-requires
     tested-requires

@@ -5,7 +5,7 @@ use denote.Ref.{now}
 use Rattle.lta_spec.specs.Damage.{integrateSound}
 use Rattle.lta_spec.specs.Call.Call.{integrate}
 use Rattle.lta_spec.specs.Engine.{integrateCell}
-use Rattle.lta_spec.specs.Step.{verdict, step, accepted}
+use Rattle.lta_spec.specs.Step.{withCell, verdict, step, accepted}
 use Rattle.lta_spec.specs.declared.Verdict.the-variants.{Accepted}
 use Rattle.call_run.specs.Runs.{runOf}
 use Rattle.call_run.proofs.RunLaws.{shape-is}
@@ -86,7 +86,7 @@ same-length-2 : tie.Need-same-length-2
 same-length-2 c = search needs
 
 returns-2 : tie.Need-returns-2
-unfolding accepted
+unfolding accepted withCell
 returns-2 c =
     let x = c .before .before .before .before .before .before in
     let a = x .before .before .before .before .before .before .args in
@@ -94,7 +94,7 @@ returns-2 c =
     loan-moved (q .cell)
     (c .before .before .before .before .before .cell-start .ensures .is)
     (c .before .before .before .before .cell-words .ensures .0) (integrate (a .cell))
-    (λ p. integrateCell (a .s .lags) (a .s .bins) p) _ _
+    (λ u. integrateCell (a .s .lags) (a .s .bins) (u .cell)) (λ u. u .counter) _ _
     (accepting (x .before)) refl (c .before .before .integrate-cell .ensures)
 
 pub integrate-spec : {M : Type 1} → statement M

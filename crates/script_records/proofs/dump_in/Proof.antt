@@ -37,24 +37,15 @@ shared-slice-read-two-2 c = omega arith
 two-requires : tie.Need-two-requires
 two-requires c κs = tt
 
-shared-slice-read-one-4 : tie.Need-shared-slice-read-one-4
-unfolding recordSize
-shared-slice-read-one-4 c = omega arith
-
-one-requires-4 : tie.Need-one-requires-4
-one-requires-4 c κs = tt
-
 returns : tie.Need-returns
 returns c =
-    let phase = c .before .before in
-    let bank = phase .before .before .before in
+    let bank = c .before .before .before in
     let command = bank .before .before in
     rw (
       command .before .before .one .ensures,
       command .one2 .ensures,
       bank .one3 .ensures,
-      phase .two .ensures .0,
-      c .one4 .ensures,
+      c .two .ensures .0,
     ) refl
 
 pub dump-in-spec : {M : Type 1} → statement M
@@ -70,6 +61,4 @@ dump-in-spec =
     shared-slice-read-two
     shared-slice-read-two-2
     two-requires
-    shared-slice-read-one-4
-    one-requires-4
     returns)

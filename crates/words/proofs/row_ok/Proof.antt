@@ -42,22 +42,19 @@ mul-few-2 c = search needs
 shared-slice-read-few-2 : tie.Need-shared-slice-read-few-2
 shared-slice-read-few-2 c = search needs
 
-add-all-le : tie.Need-add-all-le
-add-all-le c = search needs
+add-pairs-le : tie.Need-add-pairs-le
+add-pairs-le c = search needs
 
-mul-all-le : tie.Need-mul-all-le
-mul-all-le c = search needs
+mul-pairs-le : tie.Need-mul-pairs-le
+mul-pairs-le c = search needs
 
-mul-all-le-2 : tie.Need-mul-all-le-2
-mul-all-le-2 c = search needs
-
-all-le-requires : tie.Need-all-le-requires
-all-le-requires c κs = search needs
+pairs-le-requires : tie.Need-pairs-le-requires
+pairs-le-requires c κs = search needs
 
 returns-2 : tie.Need-returns-2
 returns-2 c =
     sym (law (c .before .before .before .before .before .before)
-    ∙ rw (le-leb _ _ (c .before .before .before .if1 .left), ← c .all-le .ensures))
+    ∙ rw (le-leb _ _ (c .before .before .before .if1 .left), ← c .pairs-le .ensures))
 
 pub row-ok-spec : {M : Type 1} → statement M
 row-ok-spec =
@@ -72,8 +69,7 @@ row-ok-spec =
     add-few-2
     mul-few-2
     shared-slice-read-few-2
-    add-all-le
-    mul-all-le
-    mul-all-le-2
-    all-le-requires
+    add-pairs-le
+    mul-pairs-le
+    pairs-le-requires
     returns-2)

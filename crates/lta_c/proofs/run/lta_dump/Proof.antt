@@ -28,9 +28,9 @@ returns c =
     let a = c .before .before .before .before .before .before .before .before .before .args in
     let e = c .before .before .before .before .dump .ensures in
     let same = c .before .before .before .before .before .before .shape-of .ensures in (
-      tells (λ s. (step s (dump (a .cell) (a .command) (a .bank) (a .phase) (a .block)) (now (a .mem))) .answer)
+      tells (λ s. (step s (dump (a .cell) (a .command) (a .bank) (a .phase)) (now (a .mem))) .answer)
           (c .pack .ensures) (c .before .moved .ensures) (e .0) same,
-      e .1 ∙ ap (λ s. (step s (dump (a .cell) (a .command) (a .bank) (a .phase) (a .block)) (now (a .mem))) .mem) same,
+      e .1 ∙ ap (λ s. (step s (dump (a .cell) (a .command) (a .bank) (a .phase)) (now (a .mem))) .mem) same,
     )
 
 pub lta-dump-spec : {M : Type 1} → statement M

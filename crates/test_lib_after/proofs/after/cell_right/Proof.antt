@@ -5,10 +5,10 @@ use Rattle.test_lib_after.proofs.after.cell_right.Statement.{statement}
 use Rattle.test_lib_after.proofs.after.cell_right.Tie as tie
 
 abbrev Inv-loop : tie.InvT-loop
-Inv-loop mem old n b k answer c now cell t end ok₀ j₀ ok j = Unit {0}
+Inv-loop mem old n b m k answer c now cell t end ok₀ j₀ ok j = Unit {0}
 
 abbrev μ-loop : tie.MeasureT-loop
-μ-loop mem old n b k answer c now cell t end ok₀ j₀ ok j = end - j
+μ-loop mem old n b m k answer c now cell t end ok₀ j₀ ok j = end - j
 
 cell-of-requires : tie.Need-cell-of-requires Inv-loop μ-loop
 cell-of-requires c κs = search needs

@@ -5,10 +5,10 @@ use Rattle.test_lib_after.proofs.after.right.Statement.{statement}
 use Rattle.test_lib_after.proofs.after.right.Tie as tie
 
 abbrev Inv-loop : tie.InvT-loop
-Inv-loop mem old n b cells k answer t ok₀ c₀ ok c = Unit {0}
+Inv-loop mem old n b m cells k answer t ok₀ c₀ ok c = Unit {0}
 
 abbrev μ-loop : tie.MeasureT-loop
-μ-loop mem old n b cells k answer t ok₀ c₀ ok c = cells - c
+μ-loop mem old n b m cells k answer t ok₀ c₀ ok c = cells - c
 
 get-requires : tie.Need-get-requires Inv-loop μ-loop
 get-requires c κs = search needs

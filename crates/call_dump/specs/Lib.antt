@@ -1,0 +1,2 @@
+-- What the contract of a dump on one cell's words cites.
+pub mod Dumping

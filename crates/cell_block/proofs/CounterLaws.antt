@@ -1,0 +1,80 @@
+-- The words of the block counter: its test, and what a dump leaves of it.
+use mathlib.Core.Path.{_≡_, sym, ap, _∙_}
+use mathlib.Core.Bool.{true, false, _&&_, _||_}
+use mathlib.Core.List.{List}
+use Prim.Native.Nat.{ℕ, suc, _<_, _≤_}
+use lib.Dec.{leb, ltb, eqb}
+use lib.ListN.{getD, set}
+use borrow.Author.Tests.{ltb-true, eq-eqb, ne-eqb, lt-ltb, le-ltb}
+use Rattle.lta_spec.specs.Call.{last, discard, idle}
+use Rattle.lta_spec.specs.Engine as E
+use Rattle.lta_spec.specs.Damage.{counterOk}
+use Rattle.lta_spec.proofs.TestLaws.{and-both}
+use Rattle.cell_layout.specs.Offsets.{blockAt, lastCommandAt}
+use Rattle.cell_layout.specs.Cells.{Fits, unitOf, withCounter}
+use Rattle.cell_layout.proofs.LaysLaws.{word-of, lays-set, lays-to}
+use Rattle.cell_layout.proofs.Fields as F
+use Rattle.cell_layout.proofs.CellLaws.{laid}
+use Rattle.cell_block.specs.Counting.{counterOf, Counts}
+
+-- the ways of the step behind a command other than 111
+module _ (blocks command offset code : ℕ) where
+  pub back : E.resets command code ≡ true → 0 ≡ E.offsetAfter blocks command (counterOf offset code)
+  unfolding E.offsetAfter
+  back e = sym (rw e)
+
+  module _ (e : E.resets command code ≡ false) where
+    pub one-on : suc offset < blocks → suc offset ≡ E.offsetAfter blocks command (counterOf offset code)
+    unfolding E.offsetAfter
+    one-on h = sym (rw (e, lt-ltb (suc offset) blocks h))
+
+    pub round : blocks ≤ suc offset → 0 ≡ E.offsetAfter blocks command (counterOf offset code)
+    unfolding E.offsetAfter
+    round h = sym (rw (e, le-ltb (suc offset) blocks h))
+
+module _ {l : List ℕ} {n bins : ℕ} (f : Fits l n bins) where
+  pub block-is : getD l blockAt 0 ≡ (unitOf n bins l) .counter .offset
+  block-is = word-of (laid f) (F.currentBlock n bins)
+
+  code-is : getD l lastCommandAt 0 ≡ (unitOf n bins l) .counter .lastCode
+  code-is = word-of (laid f) (F.lastCommand n bins)
+
+  pub counter-test : (blocks : ℕ)
+      → ltb (getD l blockAt 0) blocks
+      && (leb (getD l lastCommandAt 0) (suc last) || eqb (getD l lastCommandAt 0) (suc discard))
+      ≡ counterOk blocks ((unitOf n bins l) .counter)
+  unfolding counterOk
+  counter-test blocks = rw (block-is, code-is)
+
+  module _ (blocks command : ℕ) where
+    pub within : counterOk blocks ((unitOf n bins l) .counter) ≡ true → getD l blockAt 0 < blocks
+    unfolding counterOk
+    within ok = rw block-is (ltb-true _ _ (and-both (ltb ((unitOf n bins l) .counter .offset) blocks) _ ok .0))
+
+    abbrev counted : E.Counter
+    counted = E.counted blocks command ((unitOf n bins l) .counter)
+
+    pub idle-counts : command ≡ idle → Counts n bins blocks command l l (getD l blockAt 0)
+    unfolding E.counted
+    idle-counts e =
+        let same : (unitOf n bins l) .counter ≡ counted = sym (rw (eq-eqb command idle e)) in
+        record {
+          offset = block-is ∙ ap (λ k. k .offset) same;
+          words = lays-to (laid f) (ap (withCounter (unitOf n bins l)) same);
+        }
+
+    pub counts : (next : ℕ) → (command ≡ idle → ⊥)
+        → next ≡ E.offsetAfter blocks command (counterOf (getD l blockAt 0) (getD l lastCommandAt 0))
+        → Counts n bins blocks command l (set (set l blockAt next) lastCommandAt (suc command)) next
+    unfolding E.counted
+    counts next other e =
+        let k : E.Counter = counterOf next (suc command) in
+        let by = rw (block-is, code-is) at e in
+        let moved : k ≡ counted = sym (rw (ne-eqb command idle other) (ap (λ o. counterOf o (suc command)) (sym by))) in
+        record {
+          offset = ap (λ k. k .offset) moved;
+          words =
+              lays-to
+              (lays-set (lays-set (laid f) (F.currentBlock n bins) next) (F.lastCommand n bins) (suc command))
+              (ap (withCounter (unitOf n bins l)) moved);
+        }

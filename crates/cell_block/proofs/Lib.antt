@@ -1,0 +1,2 @@
+-- The laws of a cell's block counter.
+pub mod CounterLaws
