@@ -1,4 +1,5 @@
-/* A run from C: two aerials see the same noise, one of them two ticks later, and a lag stands out.
+/* A run from C: two aerials see the same noise, one of them two ticks later, and a lag stands out. Then more
+ * ticks come than an Open takes, and dumps planned by the forecast keep all of them.
  *
  *   cc -std=c99 -Wall -Wextra -Werror -Iinclude examples/host.c target/staticlib/liblta_c.a -o target/host
  */
@@ -8,7 +9,7 @@
 
 #include "lta.h"
 
-enum { CELLS = 2, LAGS = 16, DELAY = 2, DISCARDED = 100, TICKS = 4000 };
+enum { CELLS = 2, LAGS = 16, DELAY = 2, DISCARDED = 100, TICKS = 4000, LONG = 600000, GROUP = 1000 };
 
 static const uint64_t shape[LTA_SHAPE_LEN] = {
     [LTA_SHAPE_CELLS] = CELLS, [LTA_SHAPE_LAGS] = LAGS, [LTA_SHAPE_BINS] = 4,      [LTA_SHAPE_BLOCKS] = 1,
@@ -53,8 +54,17 @@ static void feed(int ticks) {
         late[at % DELAY] = x;
         at++;
         uint8_t samples[2 * CELLS] = {x, y, x, at % 2 ? y : 8};
-        accepted("a tick", lta_tick(shape, LTA_SHAPE_LEN, mem, words, samples, sizeof samples));
+        uint64_t result = lta_tick(shape, LTA_SHAPE_LEN, mem, words, samples, sizeof samples);
+        expect("no cell is held off", accepted("a tick", result) == 0);
     }
+}
+
+/* What is open goes to bin 0. */
+static void keep(uint64_t cell, uint64_t command) {
+    uint64_t result = lta_dump(shape, LTA_SHAPE_LEN, mem, words, cell, command, 0, 0);
+    expect("what was open is held", accepted("a dump", result) == LTA_MOVED_KEPT);
+    result = lta_integrate(shape, LTA_SHAPE_LEN, mem, words, cell);
+    expect("it is kept", accepted("an integration", result) == LTA_MOVED_KEPT);
 }
 
 static void show_lags(const uint8_t *frame, size_t length) {
@@ -88,14 +98,48 @@ static void show_frame(uint64_t cell) {
     show_lags(frame, length);
 }
 
+/* A loss at the centre lag. */
+static void read_loss(uint64_t cell, uint64_t loss, int64_t *sums, uint64_t *counts) {
+    accepted("a reading", lta_reading(shape, LTA_SHAPE_LEN, mem, words, cell, LAGS / 2, loss, sums, LTA_SUMS_LEN,
+                                      counts, LTA_COUNTS_LEN));
+}
+
 static void show_loss(uint64_t cell) {
     int64_t sums[LTA_SUMS_LEN];
     uint64_t counts[LTA_COUNTS_LEN];
-    accepted("a reading", lta_reading(shape, LTA_SHAPE_LEN, mem, words, cell, LAGS / 2, LTA_LOSS_ORDERED, sums,
-                                      LTA_SUMS_LEN, counts, LTA_COUNTS_LEN));
+    read_loss(cell, LTA_LOSS_ORDERED, sums, counts);
     printf("cell %" PRIu64 ", loss 1: %" PRIu64 " ticks, at the centre I %" PRId64 ", Q %" PRId64 "\n", cell,
            counts[LTA_COUNTS_TICKS], sums[LTA_SUMS_I], sums[LTA_SUMS_Q]);
     expect("the ticks of the loss", counts[LTA_COUNTS_TICKS] == DISCARDED);
+}
+
+/* A cell is dumped ahead of a group of ticks for which its Open has no room; answers whether it was. */
+static int dump_in_time(uint64_t cell) {
+    uint64_t result = lta_forecast(shape, LTA_SHAPE_LEN, mem, words, cell);
+    int full = accepted("a forecast", result) < GROUP;
+    if (full) {
+        keep(cell, LTA_COMMAND_ADD);
+    }
+    return full;
+}
+
+/* More ticks than an Open takes, and loss 6 is empty behind them. */
+static void plan(void) {
+    int dumps = 0;
+    for (int t = 0; t < LONG; t += GROUP) {
+        for (uint64_t cell = 0; cell < CELLS; cell++) {
+            dumps += dump_in_time(cell);
+        }
+        feed(GROUP);
+    }
+    for (uint64_t cell = 0; cell < CELLS; cell++) {
+        int64_t sums[LTA_SUMS_LEN];
+        uint64_t counts[LTA_COUNTS_LEN];
+        read_loss(cell, LTA_LOSS_HOLDOFF, sums, counts);
+        expect("loss 6 is empty", counts[LTA_COUNTS_TICKS] == 0);
+    }
+    printf("%d ticks more with %d dumps by the forecast, and none is held off\n", LONG, dumps);
+    expect("a dump of each cell", dumps == CELLS);
 }
 
 int main(void) {
@@ -110,16 +154,14 @@ int main(void) {
     }
     feed(TICKS);
     for (uint64_t cell = 0; cell < CELLS; cell++) {
-        uint64_t result = lta_dump(shape, LTA_SHAPE_LEN, mem, words, cell, LTA_COMMAND_LAST, 0, 0);
-        expect("what was open is held", accepted("a dump", result) == LTA_MOVED_KEPT);
-        result = lta_integrate(shape, LTA_SHAPE_LEN, mem, words, cell);
-        expect("it is kept", accepted("an integration", result) == LTA_MOVED_KEPT);
+        keep(cell, LTA_COMMAND_LAST);
         show_frame(cell);
     }
     show_loss(1);
     uint32_t refusal = LTA_REFUSAL(lta_integrate(shape, LTA_SHAPE_LEN, mem, words, 0));
     printf("an integration with nothing held is refused by %" PRIu32 "\n", refusal);
     expect("refusal 8", refusal == LTA_REFUSAL_NOTHING_HELD);
+    plan();
     free(mem);
     return 0;
 }

@@ -176,7 +176,23 @@ uint64_t lta_reading(const uint64_t *shape, size_t shape_len, const uint64_t *me
                      uint64_t cell, uint64_t lag, uint64_t loss,
                      int64_t *sums, size_t sums_len, uint64_t *counts, size_t counts_len);
 
-/* The ticks that a cell may still take before it is held off. It changes nothing.
+/* A forecast of one cell: exactly 524,288 less the ticks of its Open. It changes nothing.
+ *
+ * A forecast of n holds up to the cell's next accepted dump with a command other than LTA_COMMAND_IDLE. Until then the
+ * next n accepted ticks join the cell's Open, and none of them counts the cell among those held off. Each accepted tick
+ * after them does, and goes to loss 6 of the cell. Refused calls make no difference, nor do calls on other cells, nor
+ * the cell's own integrations, emissions, readings, forecasts and idle dumps. The end of the run is not taken into
+ * account: where it comes first, the ticks are refused by 4.
+ *
+ * So loss 6 stays empty where the host dumps when the forecast is 0, or below the number of ticks that come before it
+ * can dump again. Ahead of each group of ticks, 1 to 524,288 of them:
+ *
+ *     uint64_t result = lta_forecast(shape, LTA_SHAPE_LEN, mem, words, cell);
+ *     if (LTA_REFUSAL(result) == LTA_REFUSAL_NONE && LTA_ANSWER(result) < ticks) {
+ *         lta_dump(shape, LTA_SHAPE_LEN, mem, words, cell, LTA_COMMAND_ADD, bank, phase);
+ *         lta_integrate(shape, LTA_SHAPE_LEN, mem, words, cell);
+ *     }
+ *
  * Refuses 1, 2, 5, 11. */
 uint64_t lta_forecast(const uint64_t *shape, size_t shape_len, const uint64_t *mem, size_t mem_len, uint64_t cell);
 

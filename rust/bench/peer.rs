@@ -180,7 +180,7 @@ pub fn reading(shape: &Shape, mem: &[i64], cell: u64, lag: u64, loss: u64) -> Re
     Ok(Sums { i: row[at], q: row[at + 1], ticks, edge, centre })
 }
 
-/// The ticks that a cell may still take before it is held off.
+/// 524,288 less the ticks of Open: so many more join it before one is held off.
 #[inline(never)]
 pub fn forecast(shape: &Shape, mem: &[i64], cell: u64) -> Result<u32, Refusal> {
     let layout = host(shape, mem.len())?;

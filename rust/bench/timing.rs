@@ -51,10 +51,10 @@ pub fn each_lag_more(few: Shape, many: Shape) -> Blocks {
 }
 
 /// The calls on one cell that are timed, in the order of their times.
-pub const ON_A_CELL: [&str; 4] = ["dump", "integrate", "emit", "reading"];
+pub const ON_A_CELL: [&str; 5] = ["dump", "integrate", "emit", "reading", "forecast"];
 
 /// A tick, then one call of each kind on every cell: the time of each kind.
-fn round<E: Engine>(engine: &mut E, shape: &Shape, samples: &[u8], out: &mut [u8]) -> [Duration; 4] {
+fn round<E: Engine>(engine: &mut E, shape: &Shape, samples: &[u8], out: &mut [u8]) -> [Duration; 5] {
     engine.tick(samples).expect("a tick");
     let mut time = |work: &mut dyn FnMut(&mut E, u64)| {
         let start = Instant::now();
@@ -75,13 +75,16 @@ fn round<E: Engine>(engine: &mut E, shape: &Shape, samples: &[u8], out: &mut [u8
             let loss = u64::from(Loss::Ordered.number());
             black_box(engine.reading(cell, black_box(3), loss)).expect("a reading");
         }),
+        time(&mut |engine, cell| {
+            black_box(engine.forecast(cell)).expect("a forecast");
+        }),
     ]
 }
 
-fn rounds<E: Engine>(engine: &mut E, shape: &Shape, times: usize) -> [f64; 4] {
+fn rounds<E: Engine>(engine: &mut E, shape: &Shape, times: usize) -> [f64; 5] {
     let mut out = vec![0; shape.frame_length()];
     let samples = Noise::new(11).samples(2 * shape.cells as usize);
-    let mut spent = [Duration::ZERO; 4];
+    let mut spent = [Duration::ZERO; 5];
     for _ in 0..times {
         let more = round(engine, shape, &samples, &mut out);
         spent = from_fn(|kind| spent[kind] + more[kind]);
@@ -90,7 +93,7 @@ fn rounds<E: Engine>(engine: &mut E, shape: &Shape, times: usize) -> [f64; 4] {
 }
 
 /// One call of each kind of [`ON_A_CELL`].
-pub fn on_a_cell(shape: Shape) -> [Blocks; 4] {
+pub fn on_a_cell(shape: Shape) -> [Blocks; 5] {
     let (mut proved, mut peer) = (Proved::new(shape), Peer::new(shape));
     in_turn(|times| rounds(&mut proved, &shape, times), |times| rounds(&mut peer, &shape, times))
 }

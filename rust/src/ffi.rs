@@ -200,7 +200,7 @@ pub fn reading(
     }
 }
 
-/// The ticks that a cell may still take before it is held off.
+/// 524,288 less the ticks of a cell's Open: so many more join it before one is held off.
 pub fn forecast(shape: &[u64], mem: &[u64], cell: u64) -> u64 {
     // SAFETY: each slice's own pointer and length.
     unsafe { c::lta_forecast(shape.as_ptr(), shape.len(), mem.as_ptr(), mem.len(), cell) }

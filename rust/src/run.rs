@@ -207,13 +207,31 @@ impl Run {
         Ok(Sums { i, q, ticks, edge, centre })
     }
 
-    /// The ticks that a cell may still take before it is held off. Refuses 5.
+    /// Exactly 524,288 less the ticks of the cell's Open. It changes nothing. Refuses 5.
+    ///
+    /// A forecast of n holds up to the cell's next accepted dump but 111. Until then the next n accepted ticks join
+    /// the cell's Open, and none of them counts the cell among those held off. Each accepted tick after them does, and
+    /// goes to [`Loss::Holdoff`]. Refused calls make no difference, nor do calls on other cells, nor the cell's own
+    /// integrations, emissions, readings, forecasts and 111. The end of the run is not taken into account: where it
+    /// comes first, ticks are refused by 4.
+    ///
+    /// So no tick is held off where the host dumps when the forecast is 0, or, if it asks only once in so many ticks,
+    /// when the forecast is below their number:
     ///
     /// ```
-    /// # let shape = lta::Shape { cells: 1, lags: 2, bins: 1, blocks: 1, start: 0, rate: 4, second: 0 };
-    /// let run = lta::Run::new(shape)?;
-    /// assert!((1..=524_288).contains(&run.forecast(0)?));
-    /// # Ok::<(), lta::Refusal>(())
+    /// # use lta::{Command, Loss, Refusal, Run, Shape};
+    /// # let shape = Shape { cells: 1, lags: 2, bins: 1, blocks: 1, start: 0, rate: 4, second: 0 };
+    /// let mut run = Run::new(shape)?;
+    /// for _ in 0..2 * 524_288 + 1_000 {
+    ///     if run.forecast(0)? == 0 {
+    ///         run.dump(0, Command::Add, 0, 0)?;
+    ///         run.integrate(0)?;
+    ///     }
+    ///     assert_eq!(run.tick(&[0x07, 0x07])?, 0);
+    /// }
+    /// assert_eq!(run.forecast(0)?, 524_288 - 1_000);
+    /// assert_eq!(run.reading(0, 0, Loss::Holdoff)?.ticks, 0);
+    /// # Ok::<(), Refusal>(())
     /// ```
     pub fn forecast(&self, cell: u64) -> Result<u32, Refusal> {
         outcome(ffi::forecast(&self.numbers, &self.words, cell))

@@ -1,11 +1,9 @@
--- The verdict of a forecast, and what its tests showed where it is accepted.
-use mathlib.Core.Path.{_≡_, refl}
+-- What the tests of an accepted forecast showed.
+use mathlib.Core.Path.{_≡_}
 use mathlib.Core.Bool.{true}
-use mathlib.Core.List.{List, _++_}
+use mathlib.Core.List.{List}
 use Prim.Native.Nat.{ℕ}
-use lib.ListN.{length}
-use Rattle.lta_spec.specs.Refusals.{firstOf}
-use Rattle.lta_spec.specs.Size.{hostTests}
+use Rattle.lta_spec.specs.Call.Call.{forecast}
 use Rattle.lta_spec.specs.Damage as D
 use Rattle.lta_spec.specs.Step as S
 use Rattle.lta_spec.specs.declared.Shape.{Shape}
@@ -13,17 +11,12 @@ use Rattle.lta_spec.specs.declared.Verdict.the-variants.{Accepted}
 use Rattle.call_run.specs.Runs.{Celled, runOf}
 use Rattle.call_run.proofs.StepLaws.{cell-shown, sound-shown}
 
-pub verdict-is : (s : Shape) (mem : List ℕ) (c : ℕ)
-    → S.forecastVerdict s c mem ≡ firstOf (hostTests s (length mem) ++ S.forecastTests s c (runOf s mem))
-unfolding S.forecastVerdict runOf
-verdict-is s mem c = refl
-
 pub record Foresees (s : Shape) (mem : List ℕ) (c : ℕ) : Type 0 where
   pub cell : Celled s mem c
   pub sound : D.forecastSound ((runOf s mem) .t) (S.cellAt s c (runOf s mem)) ≡ true
 
-pub foresees : (s : Shape) (mem : List ℕ) (c : ℕ) → Accepted ≡ S.forecastVerdict s c mem → Foresees s mem c
-unfolding S.forecastVerdict runOf
+pub foresees : (s : Shape) (mem : List ℕ) (c : ℕ) → Accepted ≡ S.verdict s mem (forecast c) → Foresees s mem c
+unfolding S.verdict runOf
 foresees s mem c e =
     let r = runOf s mem in
     let x = cell-shown s mem c _ e in

@@ -10,11 +10,12 @@ use lta_spec::Shape;
 use lta_spec::Verdict;
 ghost use mathlib.Core.Path.{_≡_};
 ghost use Rattle.lta_spec.specs.Answer.{forecastAs};
-ghost use Rattle.lta_spec.specs.Step.{forecastVerdict, ForecastOk};
+ghost use Rattle.lta_spec.specs.Call.Call.{forecast};
+ghost use Rattle.lta_spec.specs.Step.{verdict, step};
 
 // 1, 2, 5, 11.
 fn forecast_verdict(s: Shape, mem: &[u64], c: u64) -> Verdict
-    ensures { λ r. ⌜ r ≡ forecastVerdict s c (now (mem .entry)) ⌝ }
+    ensures { λ r. ⌜ r ≡ verdict s (now (mem .entry)) (forecast c) ⌝ }
 {
     match cell_verdict(s, mem, c) {
         Verdict::Refused(r) => Verdict::Refused(r),
@@ -29,7 +30,7 @@ fn forecast_verdict(s: Shape, mem: &[u64], c: u64) -> Verdict
 
 // The ticks that a cell may still take before it is held off.
 pub fn forecast(s: Shape, mem: &[u64], cell: u64) -> Forecast
-    ensures { λ r. ⌜ ForecastOk s cell (now (mem .entry)) (forecastAs r) ⌝ }
+    ensures { λ r. ⌜ forecastAs r ≡ (step s (forecast cell) (now (mem .entry))) .answer ⌝ }
 {
     match forecast_verdict(s, mem, cell) {
         Verdict::Refused(r) => Forecast::Refused(r),

@@ -10,11 +10,11 @@ use lta_spec::PEAK;
 use lta_spec::Sums;
 ghost use mathlib.Core.Path.{_≡_};
 ghost use mathlib.Core.Bool.{true};
-ghost use Prim.Native.Nat.{_-_, _<_, _≤_};
-ghost use Rattle.lta_spec.specs.Shape.{openLimit, runLimit};
+ghost use Prim.Native.Nat.{_<_, _≤_};
+ghost use Rattle.lta_spec.specs.Shape.{runLimit};
 ghost use Rattle.lta_spec.specs.Place.{lossCount};
-ghost use Rattle.lta_spec.specs.Row.{ticksOf, unbiased, rowSums};
-ghost use Rattle.lta_spec.specs.Engine.{lossAt};
+ghost use Rattle.lta_spec.specs.Row.{unbiased, rowSums};
+ghost use Rattle.lta_spec.specs.Engine.{lossAt, forecastOf};
 ghost use Rattle.lta_spec.specs.Damage.{readSound, forecastSound};
 ghost use Rattle.cell_layout.specs.Cells.{Fits, sumLimit, placesOf};
 
@@ -48,7 +48,7 @@ pub fn read_loss(cell: &[u64], n: usize, bins: usize, lag: usize, i: usize) -> S
 // The ticks that Open still takes.
 pub fn forecast_cell(cell: &[u64], n: usize, bins: usize, t: u64) -> u64
     requires { ⌜ Fits (now cell) n bins × (forecastSound t (placesOf n bins (now cell)) ≡ true) ⌝ }
-    ensures { λ r. ⌜ r ≡ openLimit - ticksOf ((placesOf n bins (now (cell .entry))) .opened .members) ⌝ }
+    ensures { λ r. ⌜ r ≡ forecastOf (placesOf n bins (now (cell .entry))) ⌝ }
 {
     OPEN_LIMIT - cell[OPEN_ROW]
 }

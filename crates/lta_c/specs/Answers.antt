@@ -1,6 +1,5 @@
 -- What the calls for hosts answer: the answers of document 01, where they want room in a slice that was lent.
 use Prim.Native.Nat.{ℕ}
-use mathlib.Core.Path.{_≡_}
 use mathlib.Core.Bool.{_&&_}
 use mathlib.Core.List.{List}
 use lib.Dec.{leb}
@@ -11,13 +10,7 @@ use Rattle.lta_spec.specs.Answer.{Answer}
 use Rattle.lta_spec.specs.Call.Call.{reading}
 use Rattle.lta_spec.specs.Step.{step}
 use Rattle.lta_spec.specs.FrameCalls.{readAnswer, normalAnswer}
-use Rattle.host_pack.specs.Boundary.{shapeOf, packed, roomed}
-
--- an answer of which a definition says no more than P, as one number
-pub record Packs (P : Answer → Type 0) (r : ℕ) : Type 0 where
-  pub answer : Answer
-  pub holds : P answer
-  pub one : r ≡ packed answer
+use Rattle.host_pack.specs.Boundary.{shapeOf, roomed}
 
 -- a reading into room for two sums and three counts
 abbrev pub readingTold : (shape mem : List ℕ) (cell lag loss : ℕ) (sums : List ℤ) (counts : List ℕ) → Answer

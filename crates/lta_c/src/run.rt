@@ -9,10 +9,10 @@ use host_pack::numbers::shape_of;
 use host_pack::pack::pack;
 use host_values::store_sums;
 ghost use mathlib.Core.Path.{_≡_};
-ghost use Rattle.lta_spec.specs.Call.Call.{tick, dump, integrate, emit};
-ghost use Rattle.lta_spec.specs.Step.{sizeAnswer, setupAnswer, setupLeaves, step, ForecastOk};
+ghost use Rattle.lta_spec.specs.Call.Call.{tick, dump, integrate, emit, forecast};
+ghost use Rattle.lta_spec.specs.Step.{sizeAnswer, setupAnswer, setupLeaves, step};
 ghost use Rattle.host_pack.specs.Boundary.{shapeOf, packed, stored, sumsIn, countsIn};
-ghost use Rattle.lta_c.specs.Answers.{Packs, readingTold};
+ghost use Rattle.lta_c.specs.Answers.{readingTold};
 
 // How many words of work memory a shape needs.
 #[no_mangle]
@@ -127,7 +127,8 @@ pub extern "C" fn lta_reading(
 // The ticks that a cell may still take before it is held off.
 #[no_mangle]
 pub extern "C" fn lta_forecast(shape: &[u64], mem: &[u64], cell: u64) -> u64
-    ensures { λ r. ⌜ Packs (ForecastOk (shapeOf (now (shape .entry))) cell (now (mem .entry))) r ⌝ }
+    ensures { λ r. ⌜ r
+        ≡ packed ((step (shapeOf (now (shape .entry))) (forecast cell) (now (mem .entry))) .answer) ⌝ }
 {
     pack(forecast(lta::forecast(shape_of(shape), mem, cell)))
 }

@@ -17,11 +17,11 @@ use Rattle.lta_spec.specs.AnswerOrder.{Orders}
 pub orders : Orders
 unfolding
     lagCountOk shapeOk memoryWords hostTests part fieldsOf fixedOk fieldsOk marked summed ruled readVerdict
-    writeVerdict normalVerdict emittedFields commandOk phaseOk rowOk E.binAt E.hasRoom E.tickBy E.tickUnit E.resets
-    E.offsetAfter E.counted E.dumpBy E.dumpCell E.holdOpen S.tickUnits S.heldOff S.withDump S.accepted D.counterOk
-    D.dumpUnitSound D.lossesOk D.tickSound
-    D.dumpHolds D.dumpParts D.dumpSound D.integrateHolds D.integrateBinSound D.integrateSound D.emitSound word block
-    pair many fields binL unitL runL S.unitsSound S.verdict S.step
+    writeVerdict normalVerdict emittedFields commandOk phaseOk rowOk E.binAt E.hasRoom E.forecastOf E.tickBy
+    E.tickUnit E.resets E.offsetAfter E.counted E.dumpBy E.dumpCell E.holdOpen S.tickUnits S.heldOff S.withDump
+    S.accepted D.counterOk D.dumpUnitSound D.lossesOk D.tickSound D.dumpHolds D.dumpParts D.dumpSound
+    D.integrateHolds D.integrateBinSound D.integrateSound D.emitSound word block pair many fields binL unitL
+    runL S.unitsSound S.verdict S.step
 orders =
     record {
       sampler = refl;
@@ -36,6 +36,10 @@ orders =
       taker = refl;
       taker-last = refl;
       reader = refl;
+      forecaster = refl;
+      forecaster-others = refl;
+      forecaster-open = refl;
+      forecaster-stamp = refl;
       sender = refl;
       normaliser = refl;
       writer = refl;

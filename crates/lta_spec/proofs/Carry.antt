@@ -52,6 +52,10 @@ module _ (n : ℕ) (xs ys : List ℕ) where
   unfolding E.hasRoom M.hasRoom mapCell mapStamped
   room-carry c = simp numbers-size
 
+  pub forecast-carry : (c : Cell Ticks) → E.forecastOf (mapCell row c) ≡ M.forecastOf c
+  unfolding E.forecastOf M.forecastOf mapCell mapStamped
+  forecast-carry c = simp numbers-size
+
   tickBy-carry : (b : Bool) (t : ℕ) (c : Cell Ticks)
       → mapCell row (M.tickBy b t c) ≡ E.tickBy n b (row (t ∷ [])) (mapCell row c)
   unfolding M.tickBy E.tickBy mapCell mapStamped

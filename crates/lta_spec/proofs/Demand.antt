@@ -30,7 +30,7 @@ use Rattle.lta_spec.proofs.SetLaws.{stored-inPhase, stored-quadrature, 
 use Rattle.lta_spec.proofs.BlockLaws.{last-stored}
 use Rattle.lta_spec.proofs.Carry.{row, mapStamped, mapBin, mapCell, bin-carry, loss-carry}
 use Rattle.lta_spec.proofs.SameCell.{Same}
-use Rattle.lta_spec.proofs.SameRun.{same-at}
+use Rattle.lta_spec.proofs.SameRun.{unit-same}
 use Rattle.lta_spec.proofs.Follow.{follow, start-same, loaded, sized, turned}
 use Rattle.lta_spec.proofs.Clean.{never-eleven}
 use Rattle.lta_spec.proofs.Totals.{none-below, one-below, sums-add-up, sets-add-up}
@@ -135,7 +135,7 @@ demand3 sh ok cs stand =
     let read : (runL sh) .get (memAfter sh cs) ≡ f .run =
     ap ((runL sh) .get) (f .mem) ∙ loaded sh (f .run) m (f .same) in
     let at : (c : ℕ) → c < sh .cells → Same sh (m .t) (S.unitAt sh c (f .run)) (R.unitAt sh c m) =
-    λ c h. same-at sh (m .t) (f .run .units) (m .units) _ _ (f .same .units) c (omega (arith, f .same .cells)) in
+    unit-same sh (f .run) m (f .same) in
     let returned : (c : ℕ) → List (List ℕ) = λ c. framesReturned (sh .lags) c cs (engineReturns sh cs (freshMem sh)) in
     let sent : (c : ℕ) → c < sh .cells → returned c
     ≡ map (setFrame sh c ((R.unitAt sh c m) .xs) ((R.unitAt sh c m) .ys)) ((R.unitAt sh c m) .frames) =

@@ -1,6 +1,6 @@
 -- The edges P1 to P12 of document 01. The calls of P1 and of the worked run are taken through the plain machine; the
 -- engine on work memory returns the same by demand 3.
-use Prim.Native.Nat.{ℕ, zero, suc, _+_}
+use Prim.Native.Nat.{ℕ, _+_}
 use mathlib.Core.Path.{_≡_, refl, _∙_}
 use mathlib.Core.Bool.{Bool, true, false}
 use native.Mathlib.Omega.{arith}
@@ -29,7 +29,6 @@ use Rattle.lta_spec.specs.Machine.{Ticks}
 use Rattle.lta_spec.specs.Numbers as N
 use Rattle.lta_spec.specs.MachineRun as R
 use Rattle.lta_spec.specs.Engine as E
-use Rattle.lta_spec.specs.Step as S
 use Rattle.lta_spec.specs.Demand.{machineReturns, engineReturns, freshMem}
 use Rattle.lta_spec.specs.WorkedRun.{workedShape, workedRun, callsOf, returnedBy}
 use Rattle.lta_spec.specs.Edges.{Edges, scriptShape, script, scriptReturned}
@@ -41,10 +40,10 @@ machine-returned : (machineReturns scriptShape script (R.start scriptShape) ≡ 
 unfolding
     lagCountOk shapeOk memoryWords hostTests fromByte product weight inPhase quadrature validAt inPhaseAt
     quadratureAt sealed frameOf header commandOk phaseOk emittedFields M.lose M.hasRoom M.tickBy M.tickCell
-    M.loseOpen M.holdOpen M.dumpBy M.dumpCell M.returns M.oneOn M.counted M.release M.stateAfter M.stampAfter
-    M.integrateBy M.binAt M.integrateAt M.integrateCell M.emptyBin N.upTo N.inPhaseSum N.quadratureSum
-    N.validCount N.setFrame R.verdict R.tickUnits R.heldOff R.withDump R.withCell R.emitted R.withFrame
-    R.accepted R.step machineReturns
+    M.forecastOf M.loseOpen M.holdOpen M.dumpBy M.dumpCell M.returns M.oneOn M.counted M.release M.stateAfter
+    M.stampAfter M.integrateBy M.binAt M.integrateAt M.integrateCell M.emptyBin N.upTo N.inPhaseSum
+    N.quadratureSum N.validCount N.setFrame R.verdict R.tickUnits R.heldOff R.withDump R.withCell R.emitted
+    R.withFrame R.accepted R.step machineReturns
 machine-returned = (refl, refl)
 
 -- the engine returns what the machine returns: demand 3
@@ -69,14 +68,6 @@ room a e = lt-ltb a openLimit (omega arith)
 noRoom : (a : ℕ) → a ≡ 524288 → ltb a openLimit ≡ false
 noRoom a e = le-ltb a openLimit (omega arith)
 
--- the forecast with one tick left, and with none
-one-left : (ticks : ℕ) → S.Foreseen 524287 ticks → ticks ≡ 1
-one-left zero f = omega (arith, f .honest refl)
-one-left (suc n) f = omega (arith, f .within)
-
-none-left : (ticks : ℕ) → S.Foreseen 524288 ticks → ticks ≡ 0
-none-left ticks f = omega (arith, f .within)
-
 -- a dump other than 111 stamps Open with t
 dumped : (dropped occupied : Bool) (l : Label) (t : ℕ) (c : Cell Ticks)
     → (M.dumpBy false dropped occupied l t c) .cell .opened .stamp ≡ t
@@ -89,7 +80,8 @@ pub edges : Edges
 unfolding
     fromByte product weight inPhase quadrature phaseOk M.tickCell M.tickBy M.hasRoom E.tickBy E.hasRoom
     M.integrateAt M.integrateBy M.stateAfter M.stampAfter E.integrateAt E.integrateBy M.dumpBy M.dumpCell M.release
-    M.binAt M.emptyBin lagCountOk normalVerdict marked summed ruled fieldsOf fixedOk fieldsOk part
+    M.binAt M.emptyBin M.forecastOf E.forecastOf lagCountOk normalVerdict marked summed ruled fieldsOf fixedOk
+    fieldsOk part
 edges =
     record {
       p1-machine = machine-returned .0;
@@ -120,8 +112,8 @@ edges =
       p8-engine = λ n row c h. rw (room _ h) (refl, refl);
       p9-machine = λ t c h. rw (noRoom _ h) (refl, refl);
       p9-engine = λ n row c h. rw (noRoom _ h) (refl, refl);
-      forecast-one = (record { within = omega arith; honest = λ e. omega arith }, one-left);
-      forecast-none = (record { within = omega arith; honest = λ e. omega arith }, none-left);
+      forecast-machine = λ k c h. omega arith;
+      forecast-engine = λ k c h. omega arith;
       dump-stamp = λ l t c h. rw h (dumped (eqb (l .command) discard) (eqb (c .held .occupied) 1) l t c);
       idle-stamp = λ l t c h. rw h;
       bin-stamp = λ new old. (refl, refl);

@@ -17,7 +17,7 @@ use Rattle.lta_spec.specs.Place.{Cell, ready}
 use Rattle.lta_spec.specs.Bytes.{numberWord}
 use Rattle.lta_spec.specs.Frame.{accumulated, frameLength, lagWords, header}
 use Rattle.lta_spec.specs.Call.{Call, lentTo, bankOk, binIndex}
-use Rattle.lta_spec.specs.Call.Call.{tick, dump, integrate, emit, reading}
+use Rattle.lta_spec.specs.Call.Call.{tick, dump, integrate, emit, reading, forecast}
 use Rattle.lta_spec.specs.Answer.{refusal}
 use Rattle.lta_spec.specs.Answer.Answer.{refused, number}
 use Rattle.lta_spec.specs.Machine as M
@@ -169,6 +169,7 @@ module _ (sh : Shape) (wide : 2 ≤ sh .lags) (e : W.Run) (m : R.Run) (s : SameR
       let w = pass (leb (frameLength accumulated (sh .lags)) (length out)) _ _ (z .1) in
       emitted-framed d bank bin out (x .0) (w .0)
   accepted-framed (reading d lag loss) v = p
+  accepted-framed (forecast d) v = p
 
   refused-returned : (call : Call) (k : ℕ)
       → returnedBy call (record { answer = refused k; out = lentTo call; run = m }) ≡ []
@@ -181,6 +182,7 @@ module _ (sh : Shape) (wide : 2 ≤ sh .lags) (e : W.Run) (m : R.Run) (s : SameR
       by-test true = refl
       by-test false = refl
   refused-returned (reading d lag loss) k = refl
+  refused-returned (forecast d) k = refl
 
   run-framed : (call : Call)
       → Framed sh c (returnedBy call (R.step sh (memoryWords sh) call m) ++ fs)

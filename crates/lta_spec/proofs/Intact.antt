@@ -154,3 +154,6 @@ module _ (n B t : ℕ) (xs ys : List ℕ) (c : Cell Ticks) (s : Sound B t c) (fe
 
     pub read-intact : D.readSound e ≡ true
     read-intact = losses-ok
+
+    pub forecast-intact : D.forecastSound t e ≡ true
+    forecast-intact = open-ok

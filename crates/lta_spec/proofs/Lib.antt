@@ -1,5 +1,5 @@
--- What follows from the definitions of specs/: laws for the proofs of the other crates, and the five statements of
--- specs/: Encoding, RoundTrip (in EmittedBack), Demand, Edges and AnswerOrder.
+-- What follows from the definitions of specs/: laws for the proofs of the other crates, and the six statements of
+-- specs/: Encoding, RoundTrip (in EmittedBack), Demand, Forecasts, Edges and AnswerOrder.
 pub mod WordLaws
 pub mod TestLaws
 pub mod ShapeLaws
@@ -27,6 +27,8 @@ pub mod Totals
 pub mod Frames
 pub mod ReadBack
 pub mod Demand
+pub mod Holdoff
+pub mod Forecasts
 pub mod BlockRows
 pub mod Edges
 pub mod AnswerOrder

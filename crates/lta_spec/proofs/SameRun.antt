@@ -1,6 +1,6 @@
 -- The engine's run and the machine's, call by call: the same verdict, the same answer, and the relation kept.
 use Prim.Native.Nat.{ℕ, zero, suc, _+_, _*_, _-_, _≤_, _<_}
-use mathlib.Core.Path.{_≡_, refl, ap, ap₂, _∙_}
+use mathlib.Core.Path.{_≡_, refl, ap, _∙_}
 use mathlib.Core.Bool.{Bool, true, false, cond, not, _&&_, _||_}
 use mathlib.Core.List.{List, [], _∷_, _++_}
 use native.Mathlib.Nat.{not-suc-le-zero, le-of-suc-le-suc}
@@ -13,7 +13,7 @@ use Rattle.lta_spec.specs.Refusals.{firstOf}
 use Rattle.lta_spec.specs.Shape.{runLimit}
 use Rattle.lta_spec.specs.Place.{lossCount}
 use Rattle.lta_spec.specs.Call.{Call, last, idle, discard, commandOk, phaseOk, bankOk, binIndex}
-use Rattle.lta_spec.specs.Call.Call.{tick, dump, integrate, emit, reading}
+use Rattle.lta_spec.specs.Call.Call.{tick, dump, integrate, emit, reading, forecast}
 use Rattle.lta_spec.specs.Answer.Answer.{number, entry}
 use Rattle.lta_spec.specs.Row.{rowSums}
 use Rattle.lta_spec.specs.Machine as M
@@ -30,10 +30,12 @@ use Rattle.lta_spec.specs.declared.Verdict.the-variants.{Accepted, Refus
 use Rattle.lta_spec.proofs.TestLaws.{and-both, pass}
 use Rattle.lta_spec.proofs.RowLaws.{numbers, numbers-size, window}
 use Rattle.lta_spec.proofs.SetLaws.{stored-edge, stored-centre, sums-read, lags-read}
-use Rattle.lta_spec.proofs.Carry.{row, mapStamped, mapBin, mapCell, room-carry, bin-carry, loss-carry}
+use Rattle.lta_spec.proofs.Carry.{row, mapStamped, mapBin, mapCell, room-carry, forecast-carry}
+use Rattle.lta_spec.proofs.Carry.{bin-carry, loss-carry}
 use Rattle.lta_spec.proofs.BlockLaws.{CounterSound, counted-sound, counter-ok, phase-below}
 use Rattle.lta_spec.proofs.Sound.{LabelSound}
 use Rattle.lta_spec.proofs.Intact.{tick-intact, dump-intact, integrate-intact, emit-intact, read-intact}
+use Rattle.lta_spec.proofs.Intact.{forecast-intact}
 use Rattle.lta_spec.proofs.SameCell.{Same, few, tick-same}
 use Rattle.lta_spec.proofs.SameCell.{counter-same, dump-same, dump-answer}
 use Rattle.lta_spec.proofs.SameCell.{integrate-same, integrate-answer, empty-same}
@@ -52,7 +54,7 @@ same-length sh t [] (m ∷ ms) a = absurd a
 same-length sh t (e ∷ es) [] a = absurd a
 same-length sh t (e ∷ es) (m ∷ ms) a = ap suc (same-length sh t es ms (a .1))
 
-pub same-at : (sh : Shape) (t : ℕ) (es : List E.Unit) (ms : List R.Unit) (d : E.Unit) (d′ : R.Unit) → AllSame sh t es ms
+same-at : (sh : Shape) (t : ℕ) (es : List E.Unit) (ms : List R.Unit) (d : E.Unit) (d′ : R.Unit) → AllSame sh t es ms
     → (c : ℕ) → c < length ms → Same sh t (getD es c d) (getD ms c d′)
 same-at sh t [] [] d d′ a c h = absurd (not-suc-le-zero h)
 same-at sh t [] (m ∷ ms) d d′ a c h = absurd a
@@ -74,6 +76,10 @@ pub record SameRun (sh : Shape) (e : W.Run) (m : R.Run) : Type 0 where
   pub limit : m .t ≤ runLimit
   pub cells : length (m .units) ≡ sh .cells
   pub units : AllSame sh (m .t) (e .units) (m .units)
+
+pub unit-same : (sh : Shape) (e : W.Run) (m : R.Run) → SameRun sh e m → (c : ℕ) → c < sh .cells
+    → Same sh (m .t) (S.unitAt sh c e) (R.unitAt sh c m)
+unit-same sh e m s c h = same-at sh (m .t) (e .units) (m .units) _ _ (s .units) c (omega (arith, s .cells))
 
 -- what an accepted call leaves
 pub record SameDone (sh : Shape) (e : S.Done) (m : R.Step) : Type 0 where
@@ -147,6 +153,12 @@ module _ (sh : Shape) (wide : 2 ≤ sh .lags) (t : ℕ) (es : List E.Unit) (ms :
     read-passes =
         both t-ok
         (rw cell-is (read-intact _ _ t (u .xs) (u .ys) (u .cell) (same .good .sound) (few _ t u (same .good)) limit))
+
+    forecast-passes : leb t runLimit && D.forecastSound t (S.cellAt sh c e) ≡ true
+    forecast-passes =
+        both t-ok
+        (rw cell-is
+        (forecast-intact _ _ t (u .xs) (u .ys) (u .cell) (same .good .sound) (few _ t u (same .good)) limit))
 
     -- flags and states
     occupied-same : (S.cellAt sh c e) .held .occupied ≡ u .cell .held .occupied
@@ -230,6 +242,9 @@ module _ (sh : Shape) (wide : 2 ≤ sh .lags) (t : ℕ) (es : List E.Unit) (ms :
       (λ h.
       same-test (ltb lag (sh .lags) && (leb 1 loss && leb loss lossCount)) _ _ _
       (λ _. passing _ _ _ (read-passes sh wide t es ms limit cells units c h)))
+  verdict-same (forecast c) =
+      same-test (ltb c (sh .cells)) _ _ _
+      (λ h. passing _ _ _ (forecast-passes sh wide t es ms limit cells units c h))
 
 -- a label that a dump gives to Held
 command-kept : (c : ℕ) → commandOk c ≡ true → eqb c idle ≡ false → eqb c discard ≡ false → c ≤ last
@@ -279,7 +294,7 @@ held-off sh t [] (m ∷ ms) a = absurd a
 held-off sh t (e ∷ es) [] a = absurd a
 held-off sh t (e ∷ es) (m ∷ ms) a =
     let room = ap (E.hasRoom (sh .lags)) (a .0 .cell [] []) ∙ room-carry (sh .lags) (m .xs) (m .ys) (m .cell) in
-    ap₂ (λ b k. cond b 0 1 + k) room (held-off sh t es ms (a .1))
+    rw (room, held-off sh t es ms (a .1))
 
 -- the frame of a set is that of its row
 pub set-frame : (sh : Shape) (c : ℕ) (xs ys : List ℕ) (e : Emitted)
@@ -384,6 +399,17 @@ module _ (sh : Shape) (wide : 2 ≤ sh .lags) (t : ℕ) (es : List E.Unit) (ms :
             ∙ ap entry
             (sums-read (sh .lags) (u .xs) (u .ys) (getD (u .cell .losses) (loss - 1) []) lag
             (ltb-true lag (sh .lags) (d .0)));
+        out = refl;
+        run = record { t = refl; limit = limit; cells = cells; units = units };
+      }
+  accepted-same (forecast c) v =
+      let a = pass (ltb c (sh .cells)) _ _ v in
+      let u = R.unitAt sh c (record { t = t; units = ms }) in
+      record {
+        answer = rw (
+          cell-is sh wide t es ms limit cells units c (a .0),
+          forecast-carry (sh .lags) (u .xs) (u .ys) (u .cell),
+        );
         out = refl;
         run = record { t = refl; limit = limit; cells = cells; units = units };
       }

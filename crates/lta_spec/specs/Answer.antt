@@ -1,6 +1,7 @@
 -- Answers by document 01's numbers and values. The calls answer enums; each enum has here the number and the values
 -- that document 01 gives for each of its cases, and the promises of the calls go through these definitions.
 use Prim.Native.Nat.{ℕ}
+use mathlib.Core.List.{List, [], _∷_}
 use Rattle.lta_spec.specs.Refusals.{refusalNumber, lossNumber}
 use Rattle.lta_spec.specs.declared.Complex.{Complex}
 use Rattle.lta_spec.specs.declared.Fields.{Fields}
@@ -37,6 +38,15 @@ pub data Answer : Type 0 where
 
 abbrev pub refusal : Refusal → Answer
 refusal r = refused (refusalNumber r)
+
+-- the number that an accepted call answers
+abbrev pub numberIn : Answer → List ℕ
+numberIn (number k) = k ∷ []
+numberIn (refused k) = []
+numberIn (entry e) = []
+numberIn (fields f) = []
+numberIn (normal z) = []
+numberIn noData = []
 
 -- the words that a shape needs
 abbrev pub neededAs : Needed → Answer

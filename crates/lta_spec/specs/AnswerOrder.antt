@@ -12,10 +12,10 @@ use Rattle.lta_spec.specs.Bytes.{bytesOf}
 use Rattle.lta_spec.specs.Frame.{mark}
 use Rattle.lta_spec.specs.FrameCalls.{readAnswer, writeAnswer, normalAnswer}
 use Rattle.lta_spec.specs.Call.{Call, emittedFields}
-use Rattle.lta_spec.specs.Call.Call.{tick, dump, integrate, emit, reading}
+use Rattle.lta_spec.specs.Call.Call.{tick, dump, integrate, emit, reading, forecast}
 use Rattle.lta_spec.specs.Answer.{Answer}
 use Rattle.lta_spec.specs.Answer.Answer.{refused, number}
-use Rattle.lta_spec.specs.Engine.{Row, Counter, freshUnit}
+use Rattle.lta_spec.specs.Engine.{Row, Counter, stamped, freshUnit}
 use Rattle.lta_spec.specs.Memory.{runL}
 use Rattle.lta_spec.specs.Step.{step}
 use Rattle.lta_spec.specs.Edges.{scriptShape, scriptFrame}
@@ -36,6 +36,16 @@ counterWith offset code = record { offset = offset; lastCode = code }
 
 abbrev pub memWith : (t flag entry : ℕ) → List ℕ
 memWith = memCounted (counterWith 0 0)
+
+-- the same but for Open, which has so many ticks and this stamp, at t = 7
+abbrev pub memOpened : (ticks stamp : ℕ) → List ℕ
+memOpened ticks stamp =
+    let u = freshUnit (scriptShape .lags) (scriptShape .bins) in
+    let c = u .cell in
+    let opened = stamped (ticks ∷ replicate 6 0) stamp in
+    let cell : Cell Row = record { opened = opened; held = c .held; bins = c .bins; losses = c .losses } in
+    (runL scriptShape) .put
+    (record { t = 7; units = record { cell = cell; counter = u .counter; xs = u .xs; ys = u .ys } ∷ [] })
 
 -- what each call answers on the same work memory
 abbrev pub returned : (mem : List ℕ) → List Call → List Answer
@@ -71,8 +81,8 @@ pub record Orders : Type 0 where
       ≡ number 0 ∷ number 0 ∷ number 0 ∷ number 0 ∷ refused 11 ∷ number 0 ∷ refused 11 ∷ refused 11 ∷ []
   -- no other call tests them
   pub counter-others : returned (memCounted (counterWith 1 4) 0 0 0)
-      (tick (0 ∷ 0 ∷ []) ∷ integrate 0 ∷ emit 0 0 0 [] ∷ [])
-      ≡ number 0 ∷ refused 8 ∷ refused 9 ∷ []
+      (tick (0 ∷ 0 ∷ []) ∷ integrate 0 ∷ emit 0 0 0 [] ∷ forecast 0 ∷ [])
+      ≡ number 0 ∷ refused 8 ∷ refused 9 ∷ number 524288 ∷ []
   -- "Order 5, 11, then 8"
   pub integrator : returned (memWith (runLimit + 1) 0 0) (integrate 1 ∷ integrate 0 ∷ []) ≡ refusals (5 ∷ 11 ∷ [])
   pub integrator-last : returned (memWith 0 2 0) (integrate 0 ∷ []) ≡ refusals (11 ∷ [])
@@ -83,6 +93,15 @@ pub record Orders : Type 0 where
   -- "5, 12 .., 11"
   pub reader : returned (memWith (runLimit + 1) 0 0) (reading 1 2 0 ∷ reading 0 2 0 ∷ reading 0 0 1 ∷ [])
       ≡ refusals (5 ∷ 12 ∷ 11 ∷ [])
+  -- forecasts, "Refused by 1, 2, 5, 11": t is too high; a flag of 2 and no entry of a register, which they do not test
+  pub forecaster : returned (memWith (runLimit + 1) 0 0) (forecast 1 ∷ forecast 0 ∷ []) ≡ refusals (5 ∷ 11 ∷ [])
+  pub forecaster-others : returned (memWith 0 2 256) (forecast 1 ∷ forecast 0 ∷ []) ≡ refused 5 ∷ number 524288 ∷ []
+  -- request 2026-02, "exactly 524,288 less the ticks in the open integration"; "ticks pass their limit", "a stamp
+  -- passes t"
+  pub forecaster-open : map (λ k. (step scriptShape (forecast 0) (memOpened k 7)) .answer)
+      (1 ∷ 524287 ∷ 524288 ∷ 524289 ∷ [])
+      ≡ number 524287 ∷ number 1 ∷ number 0 ∷ refused 11 ∷ []
+  pub forecaster-stamp : returned (memOpened 3 8) (forecast 0 ∷ []) ≡ refusals (11 ∷ [])
   -- "1 for N, then 13 .., 14 .., 15 .., 16"; "Normalising: 12 last"
   pub sender : readAnswer 3 [] ∷ map (readAnswer 2) ([] ∷ replicate 50 0 ∷ zeroFrame 1 ∷ zeroFrame 0 ∷ [])
       ≡ refusals (1 ∷ 13 ∷ 14 ∷ 15 ∷ 16 ∷ [])

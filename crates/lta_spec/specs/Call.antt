@@ -14,6 +14,7 @@ pub data Call : Type 0 where
   integrate : (cell : ℕ) → Call
   emit : (cell bank bin : ℕ) (out : List ℕ) → Call
   reading : (cell lag loss : ℕ) → Call
+  forecast : (cell : ℕ) → Call
 
 -- the frame buffer that a call is lent
 abbrev pub lentTo : Call → List ℕ
@@ -22,6 +23,7 @@ lentTo (dump cell command bank phase) = []
 lentTo (integrate cell) = []
 lentTo (emit cell bank bin out) = out
 lentTo (reading cell lag loss) = []
+lentTo (forecast cell) = []
 
 -- dump commands, three binary digits: 000, 001, 010, 100, 111
 abbrev pub save : ℕ

@@ -2,7 +2,7 @@
 -- end to end". proofs/Demand.antt proves it.
 use Prim.Native.Nat.{ℕ, zero, suc, _+_, _*_, _/_, _%_, _≤_, _<_}
 use mathlib.Core.Path.{_≡_}
-use mathlib.Core.Bool.{Bool, true, false, cond}
+use mathlib.Core.Bool.{Bool, cond}
 use mathlib.Core.List.{List, [], _∷_, _++_, map, List·Memᴰ}
 use lib.Dec.{eqb}
 use lib.IntN.{ℤ, pos, _+ℤ_}
@@ -14,9 +14,9 @@ use Rattle.lta_spec.specs.Place.{Stamped, Cell}
 use Rattle.lta_spec.specs.Frame.{accumulated, frameLength, bodyOf, fieldsOf}
 use Rattle.lta_spec.specs.FrameCalls.{readAnswer}
 use Rattle.lta_spec.specs.Call.{Call}
-use Rattle.lta_spec.specs.Answer.{Answer}
-use Rattle.lta_spec.specs.Call.Call.{tick, dump, integrate, emit, reading}
-use Rattle.lta_spec.specs.Answer.Answer.{refused, number, entry, fields, normal, noData}
+use Rattle.lta_spec.specs.Answer.{Answer, numberIn}
+use Rattle.lta_spec.specs.Call.Call.{tick, dump, integrate, emit, reading, forecast}
+use Rattle.lta_spec.specs.Answer.Answer.{refused, fields}
 use Rattle.lta_spec.specs.Machine.{Ticks, LastCommand, binAt}
 use Rattle.lta_spec.specs.Machine.LastCommand.{none, was}
 use Rattle.lta_spec.specs.Numbers.{
@@ -176,13 +176,7 @@ ticksBelow (suc t) = t ∷ ticksBelow t
 
 -- the frames of cell c, newest first: "in a frame's words as its call left them"
 abbrev pub frameIf : (named : Bool) (n : ℕ) → Answer → List ℕ → List (List ℕ)
-frameIf true n (number k) out = take (frameLength accumulated n) out ∷ []
-frameIf true n (refused r) out = []
-frameIf true n (entry e) out = []
-frameIf true n (fields f) out = []
-frameIf true n (normal z) out = []
-frameIf true n noData out = []
-frameIf false n a out = []
+frameIf named n a out = cond named (map (λ k. take (frameLength accumulated n) out) (numberIn a)) []
 
 abbrev pub frameReturned : (n c : ℕ) → Listed → Returned → List (List ℕ)
 frameReturned n c (onRun (emit d bank bin out)) t = frameIf (eqb d c) n (t .answer) (t .out)
@@ -190,6 +184,7 @@ frameReturned n c (onRun (tick samples)) t = []
 frameReturned n c (onRun (dump d command bank phase)) t = []
 frameReturned n c (onRun (integrate d)) t = []
 frameReturned n c (onRun (reading d lag loss)) t = []
+frameReturned n c (onRun (forecast d)) t = []
 frameReturned n c (onOther shape call given) t = []
 
 abbrev pub framesReturned : (n c : ℕ) → List Listed → List Returned → List (List ℕ)

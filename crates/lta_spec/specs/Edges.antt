@@ -26,7 +26,6 @@ use Rattle.lta_spec.specs.Engine.{Row}
 use Rattle.lta_spec.specs.Row.{ticksOf}
 use Rattle.lta_spec.specs.Demand.{Listed, Returned, machineReturns, engineReturns, freshMem}
 use Rattle.lta_spec.specs.Demand.Listed.{onRun}
-use Rattle.lta_spec.specs.Step.{Foreseen}
 use Rattle.lta_spec.specs.BlockRows.{BlockRows}
 use Rattle.lta_spec.specs.WorkedRun.{answerOnly, minus, workedShape, workedRun, workedFrame, callsOf, returnedBy}
 use Rattle.lta_spec.specs.declared.Shape.{Shape}
@@ -166,9 +165,9 @@ pub record Edges : Type 0 where
   pub p9-engine : (n : ℕ) (row : Row) (c : Cell Row) → ticksOf (c .opened .members) ≡ 524288
       → let d = E.tickBy n (E.hasRoom n c) row c in
       (d .opened ≡ c .opened) × (d .losses ≡ E.lose n (lossPlace 6) row (c .losses))
-  -- the forecast at 524,287 is 1, and at 524,288 it is 0
-  pub forecast-one : Foreseen 524287 1 × ((ticks : ℕ) → Foreseen 524287 ticks → ticks ≡ 1)
-  pub forecast-none : Foreseen 524288 0 × ((ticks : ℕ) → Foreseen 524288 ticks → ticks ≡ 0)
+  -- a forecast of k ticks: with those of Open they are 524,288
+  pub forecast-machine : (k : ℕ) (c : Cell Ticks) → length (c .opened .members) + k ≡ 524288 → M.forecastOf c ≡ k
+  pub forecast-engine : (k : ℕ) (c : Cell Row) → ticksOf (c .opened .members) + k ≡ 524288 → E.forecastOf c ≡ k
   -- "An integration's stamp is t at its cell's previous accepted dump other than 111"
   pub dump-stamp : (l : Label) (t : ℕ) (c : Cell Ticks) → eqb (l .command) 7 ≡ false
       → (M.dumpCell l t c) .cell .opened .stamp ≡ t

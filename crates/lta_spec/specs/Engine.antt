@@ -1,7 +1,7 @@
 -- The engine's definitions of one cell: the rules of the plain machine again, on rows of words. A text of its own, so
 -- that demand 3 holds one against the other; refusal 11 is in Damage. n is the lags of a cell, bins the data bins of
 -- a bank.
-use Prim.Native.Nat.{ℕ, suc, _+_, _*_}
+use Prim.Native.Nat.{ℕ, suc, _+_, _*_, _-_}
 use mathlib.Core.Bool.{Bool, true, false, cond, _&&_, _||_}
 use mathlib.Core.List.{List, _∷_, map}
 use lib.Dec.{leb, ltb, eqb}
@@ -68,6 +68,10 @@ counted blocks command k =
 abbrev pub dumpLabel : (blocks command bank phase offset : ℕ) → Label
 dumpLabel blocks command bank phase offset =
     record { command = command; bank = bank; bin = phase * blocks + offset }
+
+-- The ticks that Open's row is short of its limit.
+unfoldable pub forecastOf : Cell Row → ℕ
+forecastOf c = openLimit - ticksOf (c .opened .members)
 
 module _ (n : ℕ) where
   -- Tick. A tick's row is added to Open, or to loss 6 where Open is full.

@@ -22,6 +22,7 @@ pub mod Memory
 pub mod Step
 pub mod RoundTrip
 pub mod Demand
+pub mod Forecasts
 pub mod BlockRows
 pub mod WorkedRun
 pub mod Edges

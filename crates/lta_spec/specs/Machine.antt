@@ -38,6 +38,10 @@ tickBy false t c =
 unfoldable pub tickCell : (t : ℕ) → Cell Ticks → Cell Ticks
 tickCell t c = tickBy (hasRoom c) t c
 
+-- **Forecast.** Request 2026-02: "It shall be exactly 524,288 less the ticks in the open integration."
+unfoldable pub forecastOf : Cell Ticks → ℕ
+forecastOf c = openLimit - length (c .opened .members)
+
 -- **Dump.** Open goes to loss i. "Open is then empty"; the next integration's stamp is t.
 unfoldable pub loseOpen : (i t : ℕ) → Cell Ticks → Cell Ticks
 loseOpen i t c =

@@ -12,11 +12,11 @@ use Rattle.lta_spec.specs.Size.{hostTests}
 use Rattle.lta_spec.specs.Place.{Cell, ready, lossCount}
 use Rattle.lta_spec.specs.Frame.{accumulated, frameLength}
 use Rattle.lta_spec.specs.Call.{Call, lentTo, commandOk, phaseOk, bankOk, binIndex}
-use Rattle.lta_spec.specs.Call.Call.{tick, dump, integrate, emit, reading}
+use Rattle.lta_spec.specs.Call.Call.{tick, dump, integrate, emit, reading, forecast}
 use Rattle.lta_spec.specs.Answer.{Answer, refusal}
 use Rattle.lta_spec.specs.Answer.Answer.{number, entry}
 use Rattle.lta_spec.specs.Machine.{Ticks, hasRoom, tickCell, dumpCell, integrateCell, binAt, emptyBin, freshCell}
-use Rattle.lta_spec.specs.Machine.{Counter, counted, dumpLabel, freshCounter}
+use Rattle.lta_spec.specs.Machine.{forecastOf, Counter, counted, dumpLabel, freshCounter}
 use Rattle.lta_spec.specs.Numbers.{Emitted, setSums, setFrame}
 use Rattle.lta_spec.specs.declared.Shape.{Shape}
 use Rattle.lta_spec.specs.declared.Refusal.the-variants.{WrongSamples, RunFull, NoCell, BadCommand, NoBin}
@@ -74,6 +74,7 @@ module _ (sh : Shape) (r : Run) where
       test (ltb cell (sh .cells)) NoCell
       ∷ test (ltb lag (sh .lags) && (leb 1 loss && leb loss lossCount)) NoLag
       ∷ []
+  callTests (forecast cell) = test (ltb cell (sh .cells)) NoCell ∷ []
 
   unfoldable pub verdict : (words : ℕ) → Call → Verdict
   verdict words call = firstOf (hostTests sh words ++ callTests call)
@@ -171,6 +172,8 @@ accepted sh (reading c lag loss) r =
       out = [];
       run = r;
     }
+accepted sh (forecast c) r =
+    record { answer = number (forecastOf ((unitAt sh c r) .cell)); out = []; run = r }
 
 -- a call with its own shape and length of work memory. "Reading, and every refused call: nothing changes."
 unfoldable pub step : Shape → (words : ℕ) → Call → Run → Step

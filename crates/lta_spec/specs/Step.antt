@@ -1,14 +1,13 @@
 -- What a call makes of work memory: the refusals in their order, then what is done. What the contracts of the calls
 -- cite.
-use Prim.Native.Nat.{ℕ, suc, _+_, _*_, _-_, _≤_}
-use mathlib.Core.Path.{_≡_}
+use Prim.Native.Nat.{ℕ, suc, _+_, _*_, _-_}
 use mathlib.Core.Bool.{Bool, true, cond, not, _&&_}
 use mathlib.Core.List.{List, [], _∷_, _++_}
 use lib.Dec.{leb, ltb, eqb}
 use lib.ListN.{length, getD, set, drop}
 use Rattle.lta_spec.specs.Words.{splice}
 use Rattle.lta_spec.specs.Refusals.{Test, test, firstOf, decided}
-use Rattle.lta_spec.specs.Shape.{shapeOk, runLimit, openLimit}
+use Rattle.lta_spec.specs.Shape.{shapeOk, runLimit}
 use Rattle.lta_spec.specs.Size.{memoryWords, hostTests}
 use Rattle.lta_spec.specs.Place.{Stamped, Cell, ready, lossCount}
 use Rattle.lta_spec.specs.Frame.{accumulated, frameLength, frameOf, lagWords, header}
@@ -21,9 +20,9 @@ use Rattle.lta_spec.specs.Call.{
   binIndex,
   emittedFields,
 }
-use Rattle.lta_spec.specs.Call.Call.{tick, dump, integrate, emit, reading}
+use Rattle.lta_spec.specs.Call.Call.{tick, dump, integrate, emit, reading, forecast}
 use Rattle.lta_spec.specs.Answer.{Answer, refusal}
-use Rattle.lta_spec.specs.Answer.Answer.{refused, number, entry, fields, normal, noData}
+use Rattle.lta_spec.specs.Answer.Answer.{number, entry}
 use Rattle.lta_spec.specs.Row.{ticksOf, edgeOf, centreOf, rowLags, rowSums}
 use Rattle.lta_spec.specs.Engine.{
   Row,
@@ -33,6 +32,7 @@ use Rattle.lta_spec.specs.Engine.{
   binAt,
   hasRoom,
   tickUnit,
+  forecastOf,
   counted,
   dumpLabel,
   dumpCell,
@@ -57,7 +57,6 @@ use Rattle.lta_spec.specs.declared.Refusal.the-variants.{
   NoLag,
 }
 use Rattle.lta_spec.specs.declared.Verdict.{Verdict}
-use Rattle.lta_spec.specs.declared.Verdict.the-variants.{Accepted, Refused}
 
 -- how many words a shape needs
 abbrev pub sizeAnswer : Shape → Answer
@@ -122,6 +121,7 @@ module _ (sh : Shape) where
       ∷ test (ltb lag (sh .lags) && (leb 1 loss && leb loss lossCount)) NoLag
       ∷ soundAt (readSound (cellAt c r)) r
       ∷ []
+  callTests (forecast c) r = test (ltb c (sh .cells)) NoCell ∷ soundAt (forecastSound (r .t) (cellAt c r)) r ∷ []
 
   unfoldable pub tickUnits : (samples : List ℕ) → List Unit → List Unit
   tickUnits samples [] = []
@@ -174,6 +174,7 @@ module _ (sh : Shape) where
       }
   accepted (reading c lag loss) r =
       record { answer = entry (rowSums lag (lossAt (sh .lags) (loss - 1) ((cellAt c r) .losses))); out = []; run = r }
+  accepted (forecast c) r = record { answer = number (forecastOf (cellAt c r)); out = []; run = r }
 
   unfoldable pub verdict : (mem : List ℕ) → Call → Verdict
   verdict mem call = firstOf (hostTests sh (length mem) ++ callTests call ((runL sh) .get mem))
@@ -191,32 +192,3 @@ step sh call mem =
     (λ why. record { answer = refusal why; out = lentTo call; mem = mem })
     (let d = accepted sh call ((runL sh) .get mem) in
     record { answer = d .answer; out = d .out; mem = (runL sh) .put (d .run) })
-
--- **Forecast**, "Refused by 1, 2, 5, 11."
-abbrev pub forecastTests : Shape → (c : ℕ) → Run → List Test
-forecastTests sh c r = test (ltb c (sh .cells)) NoCell ∷ soundAt sh (forecastSound (r .t) (cellAt sh c r)) r ∷ []
-
-unfoldable pub forecastVerdict : Shape → (c : ℕ) → (mem : List ℕ) → Verdict
-forecastVerdict sh c mem = firstOf (hostTests sh (length mem) ++ forecastTests sh c ((runL sh) .get mem))
-
--- "never above 524,288 less the members of Open, and 0 only when none is left; otherwise free"
-pub record Foreseen (opened ticks : ℕ) : Type 0 where
-  pub within : ticks ≤ openLimit - opened
-  pub honest : ticks ≡ 0 → openLimit - opened ≡ 0
-
--- the answer where no refusal applies
-abbrev pub Forecasts : (opened : ℕ) → Answer → Type 0
-Forecasts opened (number ticks) = Foreseen opened ticks
-Forecasts opened (refused k) = ⊥
-Forecasts opened (entry e) = ⊥
-Forecasts opened (fields f) = ⊥
-Forecasts opened (normal z) = ⊥
-Forecasts opened noData = ⊥
-
-abbrev pub ForecastBy : Verdict → (opened : ℕ) → Answer → Type 0
-ForecastBy (Refused r) opened a = a ≡ refusal r
-ForecastBy Accepted opened a = Forecasts opened a
-
-unfoldable pub ForecastOk : Shape → (c : ℕ) → (mem : List ℕ) → Answer → Type 0
-ForecastOk sh c mem a =
-    ForecastBy (forecastVerdict sh c mem) (ticksOf ((cellAt sh c ((runL sh) .get mem)) .opened .members)) a

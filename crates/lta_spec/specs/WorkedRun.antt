@@ -8,7 +8,7 @@ use lib.ListN.{replicate}
 use Rattle.lta_spec.specs.Bytes.{bytesOf}
 use Rattle.lta_spec.specs.Frame.{mark}
 use Rattle.lta_spec.specs.Call.{Call}
-use Rattle.lta_spec.specs.Call.Call.{tick, dump, integrate, emit, reading}
+use Rattle.lta_spec.specs.Call.Call.{tick, dump, integrate, emit, reading, forecast}
 use Rattle.lta_spec.specs.Answer.{Answer}
 use Rattle.lta_spec.specs.Answer.Answer.{refused, number, entry}
 use Rattle.lta_spec.specs.Demand.{Listed, Returned}
@@ -89,6 +89,9 @@ workedRun =
     ∷ line (dump 0 4 0 0) (number 1)
     ∷ line (tick (0x85 ∷ 0xB6 ∷ 0x87 ∷ 0x68 ∷ [])) (number 0)
     ∷ line (tick (0x36 ∷ 0xC8 ∷ 0x0F ∷ 0xAF ∷ [])) (number 0)
+    -- Open has two ticks in cell 0 and five in cell 1
+    ∷ line (forecast 0) (number 524286)
+    ∷ line (forecast 1) (number 524283)
     -- cell 0 holds ticks 3 and 4; cell 1 saves ticks 0 to 4 in bank 1, block 21, data bin 1 × 3 + (21 - 20)
     ∷ line (dump 0 1 0 0) (number 0)
     ∷ line (dump 1 0 1 1) (number 0)

@@ -141,17 +141,12 @@ pub fn reading_is(s: Shape, mem: &[u64], k: Call, due: u64) -> bool {
     }
 }
 
-// "never above 524,288 less the members of Open, and 0 only when none is left": both numbers with 100.
-fn forecast_right(told: u64, most: u64) -> bool {
-    (told <= most) & ((told > ACCEPTED) | (most == ACCEPTED))
-}
-
-// Does the forecast answer the refusal `due`, or a number that is right where `due` is the most?
-pub fn forecast_is(s: Shape, mem: &[u64], k: Call, due: u64) -> bool {
+// A forecast on as many words as the call lends.
+pub fn forecast(s: Shape, mem: &[u64], k: Call) -> u64 {
     let lent = test_lib_tools::words::head(mem, k.words);
     match lta::forecast(s, lent, k.cell) {
-        Forecast::Ticks(t) => forecast_right(wrapping_add_u64(ACCEPTED, t), due),
-        Forecast::Refused(r) => due == number(r),
+        Forecast::Ticks(t) => wrapping_add_u64(ACCEPTED, t),
+        Forecast::Refused(r) => number(r),
     }
 }
 

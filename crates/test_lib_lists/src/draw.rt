@@ -9,6 +9,7 @@ use test_lib_machine::sets::shape_value;
 use test_lib_rules::call::Call;
 use test_lib_rules::call::DUMP;
 use test_lib_rules::call::EMIT;
+use test_lib_rules::call::FORECAST;
 use test_lib_rules::call::TICK;
 use test_lib_rules::call::needed;
 use test_lib_rules::call::shaped;
@@ -16,8 +17,8 @@ use test_lib_tools::random::below;
 use test_lib_tools::words::get;
 use test_lib_tools::words::less;
 
-// The first steps of a list, without refusals: ticks, so that a cell is held off.
-pub fn first_ticks(m: &[u64]) -> u64 {
+// The first steps of a list, without refusals: so many ticks that a cell is held off.
+pub fn first_steps(m: &[u64]) -> u64 {
     get(m, 9) % 4294967296
 }
 
@@ -143,14 +144,27 @@ fn of_kind(m: &[u64], i: u64, kind: u64) -> Call {
     }
 }
 
-// A tick, and every 65,536 steps an ordered loss of the last cell's Open.
-fn tick_or_clear(m: &[u64], i: u64) -> Call {
+// A tick; every 65,536 steps an ordered loss of Open; behind 524,288 steps, where cell 0 is about to be held off, every
+// other one a forecast.
+fn first_kind(i: u64) -> u64 {
+    if i % 65536 == 65535 {
+        DUMP
+    } else if (i > 524288) & (i % 2 == 1) {
+        FORECAST
+    } else {
+        TICK
+    }
+}
+
+// Losses of the last cell, and forecasts of cell 0.
+fn first_call(m: &[u64], i: u64) -> Call {
     let count = cells(m) % 32;
+    let kind = first_kind(i);
     Call {
-        kind: if i % 65536 == 65535 { DUMP } else { TICK },
+        kind: kind,
         words: needed(shape(m)),
         bytes: 2 * count,
-        cell: less(count, 1),
+        cell: if kind == DUMP { less(count, 1) } else { 0 },
         a: 4,
         b: 0,
         phase: 0,
@@ -159,8 +173,8 @@ fn tick_or_clear(m: &[u64], i: u64) -> Call {
 
 // Call i.
 pub fn call(m: &[u64], i: u64) -> Call {
-    if i < first_ticks(m) {
-        tick_or_clear(m, i)
+    if i < first_steps(m) {
+        first_call(m, i)
     } else {
         of_kind(m, i, kind(m, i))
     }
@@ -180,7 +194,7 @@ fn bad_value(x: u64, j: u64) -> u64 {
 
 // Value j of the shape that is lent: mostly the run's.
 fn lent_value(m: &[u64], i: u64, j: u64) -> u64 {
-    if (i >= first_ticks(m)) & (random(m, i, 32, 400) == j) {
+    if (i >= first_steps(m)) & (random(m, i, 32, 400) == j) {
         bad_value(random(m, i, 33, 8), j)
     } else {
         shape_value(m, j)

@@ -110,8 +110,8 @@ fn emit_says(m: &[u64], k: Call) -> u64 {
     }
 }
 
-// What a call says whose arguments are right: "8: Held unoccupied", 9 and 10, or its answer; of a forecast the most
-// that it may say.
+// What a call says whose arguments are right: "8: Held unoccupied", 9 and 10, or its answer; of a forecast, request
+// 2026-02, "exactly 524,288 less the ticks in the open integration".
 pub fn says(m: &[u64], k: Call) -> u64 {
     let c = k.cell;
     let kind = k.kind;

@@ -268,7 +268,8 @@ fn integrate_says(cell: &[u64], n: u64, b: u64) -> u64 {
     }
 }
 
-// What a call says that 11 does not apply to; of a forecast the most that it may say.
+// What a call says that 11 does not apply to; of a forecast, request 2026-02, "exactly 524,288 less the ticks in the
+// open integration".
 fn answer(cell: &[u64], n: u64, b: u64, k: Call) -> u64 {
     let kind = k.kind;
     match kind {

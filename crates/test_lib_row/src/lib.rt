@@ -81,7 +81,7 @@ fn answers(s: Shape, mem: &mut [u64], old: &[u64], k: Call, due: u64) -> bool {
     match kind {
         EMIT => emits(s, mem, old, k, due),
         READING => reads(s, mem, k, due),
-        FORECAST => ask::forecast_is(s, mem, k, due),
+        FORECAST => ask::forecast(s, mem, k) == due,
         _ => moves(s, mem, k) == due,
     }
 }

@@ -122,7 +122,7 @@ fn answers(mem: &mut [u64], m: &[u64], s: Shape, k: Call, due: u64) -> bool {
     match kind {
         EMIT => emits(mem, m, s, k, due),
         READING => reads(mem, m, s, k, due),
-        FORECAST => ask::forecast_is(s, mem, k, due),
+        FORECAST => ask::forecast(s, mem, k) == due,
         _ => moves(mem, m, s, k) == due,
     }
 }

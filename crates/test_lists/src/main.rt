@@ -5,7 +5,7 @@ use lta_spec::Shape;
 use std::num::wrapping_add_u64;
 use test_lib_calls::ask::setup;
 use test_lib_lists::draw::call;
-use test_lib_lists::draw::first_ticks;
+use test_lib_lists::draw::first_steps;
 use test_lib_lists::draw::lent_shape;
 use test_lib_machine::machine::shape;
 use test_lib_machine::sets::shape_value;
@@ -109,7 +109,7 @@ fn steps(mem: &mut [u64], m: &mut [u64], a: u64, e: u64) {
 // Part p of a list: its steps, then its memory. Part 0 has the steps before any refusal.
 fn part_of(mem: &mut [u64], m: &mut [u64], p: u64) {
     let free = 250 * (p % 16);
-    let e = wrapping_add_u64(first_ticks(m), free);
+    let e = wrapping_add_u64(first_steps(m), free);
     let a = if p == 0 { 0 } else { less(e, 250) };
     steps(&mut *mem, &mut *m, a, e);
     compare(&*mem, &mut *m);

@@ -1,6 +1,6 @@
 //! Altered work memory: words changed to values near their limits. Refusal 11 is given exactly by the clauses of
 //! document 01 and request 2026-01 on the parts that the call tests, and what is bad elsewhere is kept as it is.
-use crate::call::{agrees, Call, Reply, Shape};
+use crate::call::{Call, Reply, Shape};
 use crate::damage;
 use crate::driver::{fresh, perform};
 use crate::generator::{self, Generator};
@@ -98,7 +98,7 @@ impl Altered {
         let reply = perform(&self.shape.numbers(), &mut mem, &call);
         let expected = self.model.perform(&call, damage::found);
         let shape = self.shape;
-        assert!(agrees(&reply, &expected), "{call:?} of {shape:?}: {reply:?}, expected {expected:?}");
+        assert_eq!(reply, expected, "{call:?} of {shape:?}");
         assert!(mem == layout::words(&mut self.model), "words after {call:?} of {shape:?}");
         if matches!(reply, Reply::Refused(_)) {
             assert!(mem == before, "a refused {call:?} of {shape:?} changed memory");

@@ -44,14 +44,4 @@ pub enum Reply {
     Number(u64),
     Frame(Vec<u8>),
     Sums([i64; 5]),
-    /// From the engine the forecast itself, from a model the most that it may be.
-    Forecast(u64),
-}
-
-/// Is the engine's reply one that document 01 allows where a model gives the other?
-pub fn agrees(engine: &Reply, model: &Reply) -> bool {
-    match (engine, model) {
-        (Reply::Forecast(ticks), Reply::Forecast(most)) => ticks <= most && (*ticks > 0 || *most == 0),
-        _ => engine == model,
-    }
 }

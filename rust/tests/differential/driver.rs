@@ -57,10 +57,7 @@ pub fn perform(shape: &[u64], mem: &mut [u64], call: &Call) -> Reply {
         Call::Integrate { cell } => number(ffi::integrate(shape, mem, cell)),
         Call::Emit { cell, bank, bin, room } => emit(shape, mem, (cell, bank, bin), room),
         Call::Reading { cell, lag, loss, room } => reading(shape, mem, (cell, lag, loss), room),
-        Call::Forecast { cell } => match outcome(ffi::forecast(shape, mem, cell)) {
-            Ok(ticks) => Reply::Forecast(ticks),
-            Err(refusal) => Reply::Refused(refusal),
-        },
+        Call::Forecast { cell } => number(ffi::forecast(shape, mem, cell)),
     }
 }
 

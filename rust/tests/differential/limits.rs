@@ -1,5 +1,5 @@
 //! Real ticks up to the limits: a full Open that is held off, and a bin that would become too wide.
-use crate::call::{agrees, Call, Reply, Shape};
+use crate::call::{Call, Reply, Shape};
 use crate::damage::never;
 use crate::driver::{fresh, perform};
 use crate::layout;
@@ -26,7 +26,7 @@ impl Three {
     pub fn perform(&mut self, call: &Call) -> Reply {
         let reply = perform(&self.model.shape.numbers(), &mut self.mem, call);
         for expected in [self.model.perform(call, never), self.machine.perform(call)] {
-            assert!(agrees(&reply, &expected), "{call:?}: {reply:?}, expected {expected:?}");
+            assert_eq!(reply, expected, "{call:?}");
         }
         self.tally.count(call, &reply);
         reply
@@ -53,6 +53,11 @@ impl Three {
     pub fn dump(&mut self, cell: u64, command: u64) -> Reply {
         self.perform(&Call::Dump { cell, command, bank: 0, phase: 0 })
     }
+
+    /// The forecasts of cells 0 and 1.
+    fn forecasts(&mut self) -> [Reply; 2] {
+        [0, 1].map(|cell| self.perform(&Call::Forecast { cell }))
+    }
 }
 
 fn shape(cells: u64, lags: u64) -> Shape {
@@ -65,16 +70,20 @@ fn holdoff_with_real_ticks() {
     let mut three = Three::new(shape(2, 4));
     assert_eq!(three.ticks(&mut random, 100), 0);
     assert_eq!(three.dump(1, 0b100), Reply::Number(1));
-    assert_eq!(three.ticks(&mut random, OPEN_LIMIT - 100), 0);
-    let full = three.perform(&Call::Forecast { cell: 0 });
-    assert_eq!(full, Reply::Forecast(0));
+    assert_eq!(three.forecasts(), [524_188, 524_288].map(Reply::Number));
+    assert_eq!(three.ticks(&mut random, OPEN_LIMIT - 101), 0);
+    assert_eq!(three.forecasts(), [1, 101].map(Reply::Number));
+    assert_eq!(three.ticks(&mut random, 1), 0);
     // Cell 0 is held off from here on, cell 1 after 100 ticks more.
+    assert_eq!(three.forecasts(), [0, 100].map(Reply::Number));
     assert_eq!(three.ticks(&mut random, 100), 100);
     three.compare();
+    assert_eq!(three.forecasts(), [0, 0].map(Reply::Number));
     assert_eq!(three.ticks(&mut random, 30), 60);
     three.compare();
     assert_eq!(three.dump(0, 0b010), Reply::Number(0));
     assert_eq!(three.ticks(&mut random, 20), 20);
+    assert_eq!(three.forecasts(), [524_268, 0].map(Reply::Number));
     for cell in 0..2 {
         for lag in 0..4 {
             three.perform(&Call::Reading { cell, lag, loss: 6, room: [2, 3] });

@@ -3,7 +3,7 @@ use std::collections::BTreeSet;
 
 use lta::ffi;
 
-use crate::call::{agrees, Call, Reply, Shape};
+use crate::call::{Call, Reply, Shape};
 use crate::damage::never;
 use crate::driver::{fresh, outcome, perform};
 use crate::generator::{self, Generator};
@@ -20,17 +20,17 @@ const SHORT_LISTS: u64 = 600;
 const SHORT_CALLS: usize = 400;
 
 /// The same list of calls for the engine and for the signed model.
-struct Pair {
-    generator: Generator,
+pub struct Pair {
+    pub generator: Generator,
     numbers: [u64; 7],
-    mem: Vec<u64>,
-    model: Run,
+    pub mem: Vec<u64>,
+    pub model: Run,
     /// The reply to each cell's latest dump.
     dumped: Vec<Reply>,
 }
 
 impl Pair {
-    fn new(random: Random, shape: Shape) -> Pair {
+    pub fn new(random: Random, shape: Shape) -> Pair {
         let mut model = Run::new(shape);
         let mem = fresh(&shape);
         assert!(mem == layout::words(&mut model), "a fresh run of {shape:?}");
@@ -54,24 +54,30 @@ impl Pair {
         tally.count(call, &reply);
     }
 
-    /// A call of both; the engine's reply must be one that the model allows.
-    fn step(&mut self, tally: &mut Tally) -> (Call, Reply) {
+    /// A random call of both.
+    pub fn step(&mut self, tally: &mut Tally) -> (Call, Reply) {
         let call = self.generator.call(&self.model);
+        let reply = self.perform(&call, tally);
+        (call, reply)
+    }
+
+    /// A call of both; the engine's reply must be the model's.
+    pub fn perform(&mut self, call: &Call, tally: &mut Tally) -> Reply {
         if self.generator.random.once_in(64) {
-            self.refused_host(&call, tally);
+            self.refused_host(call, tally);
         }
-        let found = self.found(&call);
-        let reply = perform(&self.numbers, &mut self.mem, &call);
-        let expected = self.model.perform(&call, never);
+        let found = self.found(call);
+        let reply = perform(&self.numbers, &mut self.mem, call);
+        let expected = self.model.perform(call, never);
         let shape = self.model.shape;
-        assert!(agrees(&reply, &expected), "{call:?} of {shape:?}: {reply:?}, expected {expected:?}");
-        self.compare_blocks(&call);
-        tally.count(&call, &reply);
+        assert_eq!(reply, expected, "{call:?} of {shape:?}");
+        self.compare_blocks(call);
+        tally.count(call, &reply);
         if let Some(found) = found {
             tally.count_step(&shape, &found, self.model.cells[found.cell].block, &reply);
             self.dumped[found.cell] = reply.clone();
         }
-        (call, reply)
+        reply
     }
 
     /// What a dump finds in its cell, if the run has that cell.
@@ -93,7 +99,7 @@ impl Pair {
         }
     }
 
-    fn compare_words(&mut self) {
+    pub fn compare_words(&mut self) {
         let expected = layout::words(&mut self.model);
         if let Some(at) = (0..expected.len()).find(|&at| self.mem[at] != expected[at]) {
             let kind = layout::kinds(self.model.shape)[at];
@@ -167,7 +173,7 @@ fn the_plain_machine_on_short_lists() {
         for at in 1..=SHORT_CALLS {
             let (call, reply) = pair.step(&mut tally);
             let expected = machine.perform(&call);
-            assert!(agrees(&reply, &expected), "{call:?} of {shape:?}: {reply:?}, expected {expected:?}");
+            assert_eq!(reply, expected, "{call:?} of {shape:?}");
             if at % 40 == 0 {
                 assert!(machine.summed() == pair.model, "sums of {shape:?} after {at} calls");
                 pair.compare_words();

@@ -197,9 +197,7 @@ impl Machine {
             Call::Integrate { cell } => Reply::Number(self.cells[cell as usize].integrate(shape.bins)),
             Call::Emit { cell, bank, bin, .. } => self.emit(cell, bank, bin),
             Call::Reading { cell, lag, loss, .. } => self.reading(cell, lag as usize, loss as usize),
-            Call::Forecast { cell } => {
-                Reply::Forecast(524_288 - self.cells[cell as usize].open.set.members())
-            }
+            Call::Forecast { cell } => Reply::Number(524_288 - self.cells[cell as usize].open.set.members()),
         }
     }
 

@@ -1,15 +1,16 @@
-//! The engine beside models of document 01 with request 2026-01 that share no code with it.
+//! The engine beside models of document 01 with the requests up to 2026-02 that share no code with it.
 //!
-//! `machine` is the plain machine of both: sets of tick numbers, and every number worked out from the bytes of the
+//! `machine` is their plain machine: sets of tick numbers, and every number worked out from the bytes of the
 //! ticks when it is asked for. `signed` keeps signed sums instead, which is fast enough for long lists; short lists
 //! hold it against the machine. `damage` says when work memory is refused by 11, `layout` which words a run has by
 //! docs/LAYOUT.md, `frame` what the calls on frames give. The tests are in `sizes`, `lists`, `blocks`, `limits`,
-//! `altered` and `frames`.
+//! `forecast`, `altered` and `frames`.
 mod altered;
 mod blocks;
 mod call;
 mod damage;
 mod driver;
+mod forecast;
 mod frame;
 mod frames;
 mod generator;

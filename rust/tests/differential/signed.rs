@@ -245,7 +245,7 @@ impl Run {
             Call::Integrate { cell } => Reply::Number(self.cells[cell as usize].integrate(shape.bins)),
             Call::Emit { cell, bank, bin, .. } => self.emit(cell, bank, bin),
             Call::Reading { cell, lag, loss, .. } => self.reading(cell, lag as usize, loss as usize),
-            Call::Forecast { cell } => Reply::Forecast(OPEN_LIMIT - self.cell(cell).open.ticks),
+            Call::Forecast { cell } => Reply::Number(OPEN_LIMIT - self.cell(cell).open.ticks),
         }
     }
 

@@ -91,7 +91,9 @@ pub fn perform(shape: &[u64], mem: &mut [u64], call: &[&str]) -> Answer {
             framed(number(room)?, |out| ffi::emit(shape, mem, cell, bank, bin, out))
         }
         ["reading", "-", cell, lag, loss] => reading(shape, mem, number(cell)?, number(lag)?, number(loss)?),
-        ["forecast", "-", cell] => plain(ffi::forecast(shape, mem, number(cell)?)),
+        ["forecast", "-", cell] => {
+            told(ffi::forecast(shape, mem, number(cell)?), |ticks| format!("0 {ticks} {ticks}"))
+        }
         ["read", lags, frame] => read(number(lags)?, &bytes(frame)?),
         ["part", lags, frame] => part(number(lags)?, &bytes(frame)?),
         ["norm", lags, lag, frame] => norm(number(lags)?, number(lag)?, &bytes(frame)?),

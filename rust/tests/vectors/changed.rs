@@ -15,22 +15,32 @@ fn other_word(word: &str) -> String {
     format!("{front}{other}")
 }
 
-/// The line with another answer: each word changed in turn, or a forecast that is above, below or refused.
+/// A forecast that is one above, one below or refused, where the listed one is accepted.
+fn other_forecasts(words: &[&str]) -> Vec<String> {
+    let &["0", ticks, _] = words else {
+        return Vec::new();
+    };
+    let ticks: u64 = ticks.parse().expect("a number of ticks");
+    let others = [ticks + 1, ticks.wrapping_sub(1)].map(|other| format!("0 {other} {other}"));
+    others.into_iter().chain(["5".to_string()]).collect()
+}
+
+/// The line with another answer: each word changed in turn, and for a forecast both of its numbers.
 fn other_answers(line: &str) -> Vec<String> {
     let Some((call, listed)) = line.split_once(" = ") else {
         return Vec::new();
     };
     let words: Vec<&str> = listed.split(' ').collect();
-    if let (true, ["0", _, high]) = (call.starts_with("forecast"), &words[..]) {
-        let others = [format!("0 {high}9 {high}9"), "0 0 0".to_string(), "5".to_string()];
-        return others.map(|other| format!("{call} = {other}")).to_vec();
-    }
     let changed = |at: usize| {
         let mut words: Vec<String> = words.iter().map(|word| word.to_string()).collect();
         words[at] = other_word(&words[at]);
-        format!("{call} = {}", words.join(" "))
+        words.join(" ")
     };
-    (0..words.len()).map(changed).collect()
+    let mut others: Vec<String> = (0..words.len()).map(changed).collect();
+    if call.starts_with("forecast") {
+        others.extend(other_forecasts(&words));
+    }
+    others.into_iter().map(|other| format!("{call} = {other}")).collect()
 }
 
 /// Every word of every answer: the line that is changed is at fault, and no other.
@@ -53,7 +63,7 @@ fn every_other_answer_is_seen() {
 /// A part of the list, and another in its first place: heads, calls and arguments that are none, a dump that names a
 /// block, a missing answer, a buffer too short, lengths, a run that is not set up, lines that are missing or too many.
 const CHANGES: [(&str, &str); 15] = [
-    ("level ", "level 1"),
+    ("level 2\n", "level 1\n"),
     ("shape 2 ", "shape 1 "),
     (" 100 1\n", " 100 2\n"),
     ("bound 6400\n", "bound 64\n"),

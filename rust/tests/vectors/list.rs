@@ -73,15 +73,8 @@ fn shape_in<'a>(words: &'a [&'a str]) -> Result<([u64; 7], &'a [&'a str]), Strin
     Ok((shape, rest))
 }
 
-/// Is the answer as listed? A forecast lies between the two that are.
-fn compare(call: &[&str], answer: &str, listed: &str) -> Checked {
-    let forecast = answer.strip_prefix("0 ").filter(|_| call.first() == Some(&"forecast"));
-    let agrees = match (forecast, &listed.split(' ').collect::<Vec<_>>()[..]) {
-        (Some(ticks), ["0", low, high]) => (number::<u64>(low)?..=number(high)?).contains(&number(ticks)?),
-        (Some(_), _) => false,
-        (None, _) => answer == listed,
-    };
-    ensure(agrees, || format!("the engine answers {answer}"))
+fn compare(answer: &str, listed: &str) -> Checked {
+    ensure(answer == listed, || format!("the engine answers {answer}"))
 }
 
 impl Run {
@@ -126,7 +119,7 @@ impl Run {
         let answer = perform(&shape, mem, call)?;
         ensure(self.mem == before, || format!("{answer}, but work memory is another"))?;
         ensure(["1", "2"].contains(&listed), || "neither 1 nor 2".to_string())?;
-        compare(call, &answer, listed)
+        compare(&answer, listed)
     }
 
     /// A call of the run. Work memory that it may not write, and what stands behind it, is as before.
@@ -139,6 +132,6 @@ impl Run {
         let writes = WRITERS.contains(&call[0]) && answer.starts_with('0');
         let kept = if writes { self.words } else { 0 };
         ensure(self.mem[kept..] == before[kept..], || format!("{answer}, but work memory is another"))?;
-        compare(call, &answer, listed)
+        compare(&answer, listed)
     }
 }

@@ -1,15 +1,14 @@
 -- `call_forecast::forecast` meets its contract.
 use mathlib.Core.Path.{_≡_, refl, sym, ap, _∙_}
 use mathlib.Core.Bool.{true}
-use Prim.Native.Nat.{ℕ, _-_}
-use native.Mathlib.Omega.{arith}
 use denote.Ref.{now}
-use Rattle.lta_spec.specs.Shape.{openLimit}
-use Rattle.lta_spec.specs.Row.{ticksOf}
+use Rattle.lta_spec.specs.Call.Call.{forecast}
+use Rattle.lta_spec.specs.Answer.Answer.{number}
+use Rattle.lta_spec.specs.Engine.{forecastOf}
 use Rattle.lta_spec.specs.Damage.{forecastSound}
-use Rattle.lta_spec.specs.Step.{Foreseen, forecastVerdict, ForecastOk}
+use Rattle.lta_spec.specs.Step.{verdict, step, accepted}
 use Rattle.lta_spec.specs.declared.Verdict.the-variants.{Accepted}
-use Rattle.call_run.specs.Runs.{runOf}
+use Rattle.call_run.proofs.StepLaws.{done}
 use Rattle.call_run.proofs.LoanLaws.{part-holds}
 use Rattle.call_forecast.proofs.Shown.{Foresees, foresees}
 use borrow.Author.Needs.{needs}
@@ -27,7 +26,7 @@ enum-told c = search needs
 
 -- the call is accepted, and what its tests showed
 accepting : (c : tie.After-enum-told) → let a = c .before .before .before .before .args in
-    Accepted ≡ forecastVerdict (a .s) (a .cell) (now (a .mem))
+    Accepted ≡ verdict (a .s) (now (a .mem)) (forecast (a .cell))
 accepting c = sym (c .enum-told .given .1) ∙ c .before .before .forecast-verdict .ensures
 
 shown : (c : tie.After-enum-told) → let a = c .before .before .before .before .args in
@@ -49,21 +48,17 @@ forecast-cell-requires c κs =
     (l .fits, part-holds l (λ p. forecastSound (t .result) p ≡ true) (rw (t .ensures) (q .sound)))
 
 returns : tie.Need-returns
-unfolding ForecastOk
+unfolding step
 returns c = rw (← sym (c .before .r .given .1) ∙ c .before .before .before .forecast-verdict .ensures) refl
 
--- the exact number is within document 01's two bounds
-exact : (opened ticks : ℕ) → ticks ≡ openLimit - opened → Foreseen opened ticks
-exact opened ticks e = record { within = omega (arith, e); honest = λ z. sym e ∙ z }
-
 returns-2 : tie.Need-returns-2
-unfolding ForecastOk runOf
+unfolding accepted
 returns-2 c =
     let x = c .before .before .before in
-    rw (← accepting x)
-    (exact _ _
-    (c .forecast-cell .ensures
-    ∙ ap (λ u. openLimit - ticksOf (u .cell .opened .members)) (c .before .cell-part .ensures .unit)))
+    let a = x .before .before .before .before .args in
+    rw (done (a .s) (now (a .mem)) (forecast (a .cell)) (accepting x))
+    (ap number
+    (c .forecast-cell .ensures ∙ ap (λ u. forecastOf (u .cell)) (c .before .cell-part .ensures .unit)))
 
 pub forecast-spec : {M : Type 1} → statement M
 forecast-spec =

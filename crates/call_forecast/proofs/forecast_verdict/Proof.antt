@@ -4,7 +4,7 @@ use Rattle.lta_spec.specs.Damage.{openOk}
 use Rattle.lta_spec.specs.declared.Refusal.the-variants.{Damaged}
 use Rattle.call_run.proofs.FirstLaws.{cell-refused, cell-passed}
 use Rattle.call_run.proofs.TestedLaws.{tested-as, cell-sound}
-use Rattle.call_forecast.proofs.Shown.{verdict-is}
+use Rattle.call_run.proofs.StepLaws.{verdict-is}
 use borrow.Author.Needs.{needs}
 use Rattle.call_forecast.proofs.forecast_verdict.Statement.{statement}
 use Rattle.call_forecast.proofs.forecast_verdict.Tie as tie

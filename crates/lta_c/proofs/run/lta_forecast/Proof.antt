@@ -1,9 +1,8 @@
 -- The call's own contract, at the shape that was read, and its answer packed.
-use mathlib.Core.Path.{subst, ap, _∙_}
 use denote.Ref.{now}
-use Rattle.lta_spec.specs.Answer.{forecastAs}
-use Rattle.lta_spec.specs.Step.{ForecastOk}
-use Rattle.host_pack.specs.Boundary.{packed}
+use Rattle.lta_c.proofs.PackLaws.{tells}
+use Rattle.lta_spec.specs.Step.{step}
+use Rattle.lta_spec.specs.Call.Call.{forecast}
 use borrow.Author.Needs.{needs}
 use Rattle.lta_c.proofs.run.lta_forecast.Statement.{statement}
 use Rattle.lta_c.proofs.run.lta_forecast.Tie as tie
@@ -23,15 +22,9 @@ pack-requires c κs = search needs
 returns : tie.Need-returns
 returns c =
     let a = c .before .before .before .before .before .before .args in
-    let f = c .before .before .forecast in
-    record {
-      answer = forecastAs (f .result);
-      holds =
-          subst (λ s. ForecastOk s (a .cell) (now (a .mem)) (forecastAs (f .result)))
-          (c .before .before .before .shape-of .ensures)
-          (f .ensures);
-      one = c .pack .ensures ∙ ap packed (c .before .forecast2 .ensures);
-    }
+    tells (λ s. (step s (forecast (a .cell)) (now (a .mem))) .answer)
+    (c .pack .ensures) (c .before .forecast2 .ensures) (c .before .before .forecast .ensures)
+    (c .before .before .before .shape-of .ensures)
 
 pub lta-forecast-spec : {M : Type 1} → statement M
 lta-forecast-spec =
