@@ -1,11 +1,12 @@
 /* A run from C: two aerials see the same noise, one of them two ticks later, and a lag stands out. Then more
- * ticks come than an Open takes, and dumps planned by the forecast keep all of them.
+ * ticks come than an Open takes, and dumps planned by the forecast keep all of them. A loss page ends it.
  *
  *   cc -std=c99 -Wall -Wextra -Werror -Iinclude examples/host.c target/staticlib/liblta_c.a -o target/host
  */
 #include <inttypes.h>
 #include <stdio.h>
 #include <stdlib.h>
+#include <string.h>
 
 #include "lta.h"
 
@@ -142,6 +143,18 @@ static void plan(void) {
     expect("a dump of each cell", dumps == CELLS);
 }
 
+/* All that was lost, as printed lines: what was discarded of each cell, and nothing else. */
+static void show_page(void) {
+    uint8_t page[LTA_PAGE_LEN(CELLS)];
+    char totals[LTA_PAGE_LINE_LEN + 1];
+    uint64_t result = lta_page(shape, LTA_SHAPE_LEN, mem, words, page, sizeof page);
+    uint32_t length = accepted("a page", result);
+    expect("the length of a page", length == sizeof page);
+    expect("the page on standard output", fwrite(page, 1, length, stdout) == length);
+    snprintf(totals, sizeof totals, "** * %11d ", CELLS * DISCARDED);
+    expect("the ticks of the losses", memcmp(page + length - LTA_PAGE_LINE_LEN, totals, strlen(totals)) == 0);
+}
+
 int main(void) {
     words = accepted("the size", lta_words_needed(shape, LTA_SHAPE_LEN));
     mem = malloc(words * sizeof *mem);
@@ -162,6 +175,7 @@ int main(void) {
     printf("an integration with nothing held is refused by %" PRIu32 "\n", refusal);
     expect("refusal 8", refusal == LTA_REFUSAL_NOTHING_HELD);
     plan();
+    show_page();
     free(mem);
     return 0;
 }

@@ -12,8 +12,8 @@
  * between calls, allocates nothing and starts nothing. Nothing else writes the words between the calls of a run.
  *
  * Threads. Calls on different memory may run at the same time. Calls on the same memory come one at a time, except that
- * calls that take it as const, lta_reading and lta_forecast, may run at the same time as each other. The same holds for
- * the other parts lent: what one call may write, no other call reads or writes meanwhile.
+ * calls that take it as const, lta_reading, lta_forecast and lta_page, may run at the same time as each other. The same
+ * holds for the other parts lent: what one call may write, no other call reads or writes meanwhile.
  *
  * Saving. Between calls the words may be kept on disc and lent again later, with the same shape, by the same program
  * or another of the same LTA_VERSION on a machine of the same byte order. They are to be written whole, in a new file
@@ -34,7 +34,7 @@ extern "C" {
 #endif
 
 #define LTA_VERSION_MAJOR 0
-#define LTA_VERSION_MINOR 2
+#define LTA_VERSION_MINOR 3
 #define LTA_VERSION_PATCH 0
 #define LTA_VERSION (LTA_VERSION_MAJOR * 1000000 + LTA_VERSION_MINOR * 1000 + LTA_VERSION_PATCH)
 
@@ -55,7 +55,7 @@ enum lta_refusal {
     LTA_REFUSAL_NOTHING_HELD = 8,  /* Held unoccupied */
     LTA_REFUSAL_NOT_READY = 9,     /* bin not Ready */
     LTA_REFUSAL_SHORT_BUFFER = 10, /* room for less than what the call would write */
-    LTA_REFUSAL_DAMAGED = 11,      /* a word of work memory is as no call leaves it */
+    LTA_REFUSAL_DAMAGED = 11,      /* work memory is as no call leaves it */
     LTA_REFUSAL_NO_LAG = 12,       /* no such lag or loss */
     LTA_REFUSAL_WRONG_LENGTH = 13, /* a frame of the wrong length */
     LTA_REFUSAL_WRONG_MARK = 14,   /* a frame with the wrong mark */
@@ -108,6 +108,10 @@ enum lta_loss {
 enum lta_sums { LTA_SUMS_I = 0, LTA_SUMS_Q = 1 };
 #define LTA_COUNTS_LEN 3
 enum lta_counts { LTA_COUNTS_TICKS = 0, LTA_COUNTS_EDGE = 1, LTA_COUNTS_CENTRE = 2 };
+
+/* The bytes of a line of a page, its line feed included, and of the page of so many cells. */
+#define LTA_PAGE_LINE_LEN 41
+#define LTA_PAGE_LEN(cells) (LTA_PAGE_LINE_LEN * (6 * (cells) + 1))
 
 /* The fields of a frame's header. */
 #define LTA_HEAD_LEN 10
@@ -181,8 +185,8 @@ uint64_t lta_reading(const uint64_t *shape, size_t shape_len, const uint64_t *me
  * A forecast of n holds up to the cell's next accepted dump with a command other than LTA_COMMAND_IDLE. Until then the
  * next n accepted ticks join the cell's Open, and none of them counts the cell among those held off. Each accepted tick
  * after them does, and goes to loss 6 of the cell. Refused calls make no difference, nor do calls on other cells, nor
- * the cell's own integrations, emissions, readings, forecasts and idle dumps. The end of the run is not taken into
- * account: where it comes first, the ticks are refused by 4.
+ * the cell's own integrations, emissions, readings, forecasts and idle dumps, nor pages. The end of the run is not
+ * taken into account: where it comes first, the ticks are refused by 4.
  *
  * So loss 6 stays empty where the host dumps when the forecast is 0, or below the number of ticks that come before it
  * can dump again. Ahead of each group of ticks, 1 to 524,288 of them:
@@ -195,6 +199,29 @@ uint64_t lta_reading(const uint64_t *shape, size_t shape_len, const uint64_t *me
  *
  * Refuses 1, 2, 5, 11. */
 uint64_t lta_forecast(const uint64_t *shape, size_t shape_len, const uint64_t *mem, size_t mem_len, uint64_t cell);
+
+/* A loss page: the losses of every cell as printed lines of ASCII, into the front of out; answers the page's length,
+ * LTA_PAGE_LEN(C). It changes no word of memory, and no byte of out behind the page; there is no null byte at its end.
+ *
+ * One line for each cell and loss, cells ascending, losses 1 to 6 within a cell, and a last line of totals. A line is
+ * LTA_PAGE_LINE_LEN bytes. Its columns, the first of them 1, have numbers in decimal, right-aligned and filled with
+ * spaces; each other column is a space, and byte 41 a line feed:
+ *
+ *     1-2    the cell, ** in the last line
+ *     4      the loss, by lta_loss, * in the last line
+ *     6-16   its ticks
+ *     18-28  its edge count: of those, valid at lag 0
+ *     30-40  its centre count: of those, valid at lag N/2
+ *
+ *     15 6     1234567      123456       12345
+ *     ** *     1234567      123456       12345
+ *
+ * The totals are the sums of the lines above them, which are the numbers that readings give of each cell and loss.
+ *
+ * Refuses 1, 2, 11: a loss of any cell damaged, or six of one cell that have more than 2,147,483,648 ticks together,
+ * 10: buffer shorter than a page. */
+uint64_t lta_page(const uint64_t *shape, size_t shape_len, const uint64_t *mem, size_t mem_len,
+                  uint8_t *out, size_t out_len);
 
 /* The fields of a frame of so many lags into head, by lta_head; answers 0.
  * Refuses 1, 13: wrong length, 14: mark, 15: last word, 16: a field rule, and last 10: fewer than 10 numbers. */

@@ -10,9 +10,11 @@ typedef char a_shape_has_so_many[LTA_SHAPE_SECOND + 1 == LTA_SHAPE_LEN ? 1 : -1]
 typedef char a_header_has_so_many[LTA_HEAD_OFFSET + 1 == LTA_HEAD_LEN ? 1 : -1];
 typedef char a_reading_has_so_many[LTA_SUMS_Q + 1 == LTA_SUMS_LEN && LTA_COUNTS_CENTRE + 1 == LTA_COUNTS_LEN ? 1 : -1];
 typedef char the_longest_frame[LTA_FRAME_LEN(LTA_LAGS_MOST) == 1058 ? 1 : -1];
+typedef char the_longest_page[LTA_PAGE_LEN(LTA_CELLS_MOST) == 3977 ? 1 : -1];
 
 int discard(const uint64_t *shape, uint64_t *mem, size_t words, uint64_t cell);
 size_t frame_of(const uint64_t *shape, uint64_t *mem, size_t words, uint8_t *out);
+size_t page_of(const uint64_t *shape, const uint64_t *mem, size_t words, uint8_t *out);
 
 /* 1 where what was open went to loss 1, 0 where it did not, and else the refusal, negative. */
 int discard(const uint64_t *shape, uint64_t *mem, size_t words, uint64_t cell) {
@@ -31,5 +33,12 @@ int discard(const uint64_t *shape, uint64_t *mem, size_t words, uint64_t cell) {
 size_t frame_of(const uint64_t *shape, uint64_t *mem, size_t words, uint8_t *out) {
     size_t room = LTA_FRAME_LEN(shape[LTA_SHAPE_LAGS]);
     uint64_t result = lta_emit(shape, LTA_SHAPE_LEN, mem, words, 0, 0, 0, out, room);
+    return LTA_REFUSAL(result) == LTA_REFUSAL_NONE && LTA_ANSWER(result) == room ? room : 0;
+}
+
+/* The length of a page, or 0. */
+size_t page_of(const uint64_t *shape, const uint64_t *mem, size_t words, uint8_t *out) {
+    size_t room = LTA_PAGE_LEN(shape[LTA_SHAPE_CELLS]);
+    uint64_t result = lta_page(shape, LTA_SHAPE_LEN, mem, words, out, room);
     return LTA_REFUSAL(result) == LTA_REFUSAL_NONE && LTA_ANSWER(result) == room ? room : 0;
 }

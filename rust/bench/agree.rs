@@ -41,6 +41,14 @@ impl Pair {
         }
     }
 
+    /// A page in a buffer with room for two bytes more, or at times for one more, none more or one less.
+    fn page(&mut self) {
+        let length = self.shape.page_length() + 2 - self.noise.below(16).saturating_sub(12) as usize;
+        let (mut one, mut other) = (vec![b'.'; length], vec![b'.'; length]);
+        same("page", self.proved.page(&mut one), self.peer.page(&mut other));
+        same("lines", String::from_utf8_lossy(&one), String::from_utf8_lossy(&other));
+    }
+
     /// The frame calls, on a frame as it is or with one bit changed.
     fn frame(&mut self, bytes: &mut [u8]) {
         if self.noise.below(2) == 0 {
@@ -64,7 +72,7 @@ impl Pair {
         self.calls += 1;
         let s = self.shape;
         let noise = &mut self.noise;
-        let (kind, cell, bank) = (noise.below(16), noise.near(s.cells), noise.near(2));
+        let (kind, cell, bank) = (noise.below(17), noise.near(s.cells), noise.near(2));
         let (command, phase) = (noise.below(9), noise.near((s.bins / s.blocks).min(2)));
         let (offset, lag, loss) = (noise.near(s.blocks), noise.near(s.lags), noise.near(7));
         match kind {
@@ -80,7 +88,8 @@ impl Pair {
             11..=12 => same("integrate", self.proved.integrate(cell), self.peer.integrate(cell)),
             13 => self.emit(cell, bank, phase * s.blocks + offset),
             14 => same("reading", self.proved.reading(cell, lag, loss), self.peer.reading(cell, lag, loss)),
-            _ => same("forecast", self.proved.forecast(cell), self.peer.forecast(cell)),
+            15 => same("forecast", self.proved.forecast(cell), self.peer.forecast(cell)),
+            _ => self.page(),
         }
     }
 
@@ -135,9 +144,30 @@ impl Pair {
             }
         }
     }
+
+    /// Pages of a fresh run whose six losses are set to as many ticks as a run takes, one of them with the most; in
+    /// every fourth page the last cell has one tick too many.
+    fn full_losses(&mut self) {
+        let shape = self.shape;
+        for turn in 0..60 {
+            for cell in 0..shape.cells {
+                let mut rest = 2_147_483_648 + u64::from(turn % 4 == 3 && cell + 1 == shape.cells);
+                for loss in 1..=6 {
+                    let ticks = if loss == 6 { rest } else { self.noise.below(1 << (turn % 29)) };
+                    rest -= ticks;
+                    let counts = [ticks, self.noise.below(ticks + 1), self.noise.below(ticks + 1)];
+                    self.proved.set_loss(&shape, cell, loss, counts);
+                    self.peer.set_loss(&shape, cell, loss, counts);
+                }
+            }
+            self.calls += 1;
+            self.page();
+        }
+    }
 }
 
-/// Lists of calls over several shapes, calls on altered memory and calls with other shapes; answers how many calls.
+/// Lists of calls over several shapes, calls on altered memory and calls with other shapes, pages of full losses;
+/// answers how many calls.
 pub fn check() -> u64 {
     let shapes = [(1, 2, 1, 1), (2, 4, 3, 1), (3, 16, 8, 4), (4, 32, 5, 2), (16, 128, 2, 1)];
     let mut calls = 0;
@@ -149,7 +179,9 @@ pub fn check() -> u64 {
         }
         pair.alter();
         pair.reshape();
-        calls += pair.calls;
+        let mut fresh = Pair::new(shape, seed);
+        fresh.full_losses();
+        calls += pair.calls + fresh.calls;
     }
     calls
 }

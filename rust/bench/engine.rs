@@ -12,6 +12,7 @@ pub trait Engine: Sized {
     fn emit(&mut self, cell: u64, bank: u64, bin: u64, out: &mut [u8]) -> Result<usize, Refusal>;
     fn reading(&self, cell: u64, lag: u64, loss: u64) -> Result<Sums, Refusal>;
     fn forecast(&self, cell: u64) -> Result<u32, Refusal>;
+    fn page(&self, out: &mut [u8]) -> Result<usize, Refusal>;
     /// The shape that the calls name from now on, on the same memory.
     fn pretend(&mut self, shape: Shape);
     /// Writes in work memory as somebody else would.
@@ -23,6 +24,17 @@ pub trait Engine: Sized {
     fn discard(&mut self, shape: &Shape) {
         for cell in 0..shape.cells {
             self.dump(cell, Command::Discard as u64, 0, 0).expect("a discard");
+        }
+    }
+
+    /// Writes ticks, edge and centre count of a loss, 1 to 6, as somebody else would. A stored sum of 0 is within its
+    /// limits beside any ticks, and stands for another sum in each engine.
+    fn set_loss(&mut self, shape: &Shape, cell: u64, loss: u64, counts: [u64; 3]) {
+        let (cells, row) = (shape.cells as usize, 3 + 2 * shape.lags as usize);
+        let cell_words = (self.memory_bytes() / 8 - 1) / cells;
+        let at = 9 + cell as usize * cell_words + (1 + loss as usize) * row;
+        for (place, count) in (at..).zip(counts) {
+            self.set_word(place, count);
         }
     }
 }
@@ -71,6 +83,10 @@ impl Engine for Proved {
 
     fn forecast(&self, cell: u64) -> Result<u32, Refusal> {
         ffi::outcome(ffi::forecast(&self.shape, &self.words, cell))
+    }
+
+    fn page(&self, out: &mut [u8]) -> Result<usize, Refusal> {
+        ffi::outcome(ffi::page(&self.shape, &self.words, out)).map(|length| length as usize)
     }
 
     fn pretend(&mut self, shape: Shape) {
@@ -144,6 +160,10 @@ impl Engine for Peer {
 
     fn forecast(&self, cell: u64) -> Result<u32, Refusal> {
         peer::forecast(&self.shape, &self.words, cell)
+    }
+
+    fn page(&self, out: &mut [u8]) -> Result<usize, Refusal> {
+        peer::page(&self.shape, &self.words, out)
     }
 
     fn pretend(&mut self, shape: Shape) {

@@ -29,6 +29,10 @@ fn whole_calls(table: &mut Table) -> io::Result<()> {
     for (name, blocks) in timing::ON_A_CELL.iter().zip(&timing::on_a_cell(shape(16, 128, 4))) {
         table.row(&format!("{name} N=128"), "ns", blocks, |ns| ns)?;
     }
+    for lags in [2, 128] {
+        let blocks = timing::page(shape(16, lags, 1));
+        table.row(&format!("page C=16 N={lags}"), "us", &blocks, |ns| ns / 1e3)?;
+    }
     let bytes = shape(1, 128, 1).frame_length() as f64;
     table.row("frame read N=128", "MB/s", &timing::read(128), |ns| 1000.0 * bytes / ns)?;
     table.row("frame write N=128", "MB/s", &timing::write(128), |ns| 1000.0 * bytes / ns)

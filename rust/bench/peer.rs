@@ -4,6 +4,7 @@
 mod cell;
 pub mod frame;
 mod layout;
+mod page;
 mod row;
 
 use lta::{Moved, Refusal, Shape, Sums};
@@ -190,4 +191,17 @@ pub fn forecast(shape: &Shape, mem: &[i64], cell: u64) -> Result<u32, Refusal> {
     let sound = (0..=RUN_LIMIT).contains(&t) && CellRef { layout, words }.open_ok(t);
     check(sound, Refusal::Damaged)?;
     Ok((OPEN_LIMIT - words[layout.open()][0]) as u32)
+}
+
+/// A loss page into the front of out; answers its length.
+#[inline(never)]
+pub fn page(shape: &Shape, mem: &[i64], out: &mut [u8]) -> Result<usize, Refusal> {
+    let layout = host(shape, mem.len())?;
+    let cells = mem[1..].chunks_exact(layout.words()).map(|words| CellRef { layout, words });
+    let sound = (0..=RUN_LIMIT).contains(&mem[0]) && cells.clone().all(|cell| cell.page_ok());
+    check(sound, Refusal::Damaged)?;
+    let length = shape.page_length();
+    let out = out.get_mut(..length).ok_or(Refusal::ShortBuffer)?;
+    page::put_page(out, cells.map(|cell| cell.losses())).map_err(|_| Refusal::ShortBuffer)?;
+    Ok(length)
 }

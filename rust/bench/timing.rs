@@ -1,4 +1,4 @@
-//! What is timed: ticks, the calls on one cell, and frames.
+//! What is timed: ticks, the calls on one cell, pages, and frames.
 use std::array::from_fn;
 use std::hint::black_box;
 use std::time::{Duration, Instant};
@@ -96,6 +96,30 @@ fn rounds<E: Engine>(engine: &mut E, shape: &Shape, times: usize) -> [f64; 5] {
 pub fn on_a_cell(shape: Shape) -> [Blocks; 5] {
     let (mut proved, mut peer) = (Proved::new(shape), Peer::new(shape));
     in_turn(|times| rounds(&mut proved, &shape, times), |times| rounds(&mut peer, &shape, times))
+}
+
+/// Every loss of every cell gets numbers of nine digits; six have just less ticks together than a run takes.
+fn fill_losses<E: Engine>(engine: &mut E, shape: &Shape) {
+    for (cell, loss) in (0..shape.cells).flat_map(|cell| (1..=6).map(move |loss| (cell, loss))) {
+        engine.set_loss(shape, cell, loss, [357_913_941, 345_678_901, 234_567_890]);
+    }
+}
+
+fn pages<E: Engine>(engine: &E, out: &mut [u8], times: usize) -> [f64; 1] {
+    [each(times, |_| {
+        black_box(engine.page(black_box(out))).expect("a page");
+    })]
+}
+
+/// One page.
+pub fn page(shape: Shape) -> Blocks {
+    let (mut proved, mut peer) = (Proved::new(shape), Peer::new(shape));
+    fill_losses(&mut proved, &shape);
+    fill_losses(&mut peer, &shape);
+    let mut outs = [0, 1].map(|_| vec![0; shape.page_length()]);
+    let [one, other] = &mut outs;
+    let [blocks] = in_turn(|times| pages(&proved, one, times), |times| pages(&peer, other, times));
+    blocks
 }
 
 fn fields_of(ticks: u32) -> Fields {

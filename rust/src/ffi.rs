@@ -92,6 +92,14 @@ mod c {
             mem_len: usize,
             cell: u64,
         ) -> u64;
+        pub fn lta_page(
+            shape: *const u64,
+            shape_len: usize,
+            mem: *const u64,
+            mem_len: usize,
+            out: *mut u8,
+            out_len: usize,
+        ) -> u64;
         pub fn lta_read_frame(
             lags: u64,
             bytes: *const u8,
@@ -206,6 +214,12 @@ pub fn forecast(shape: &[u64], mem: &[u64], cell: u64) -> u64 {
     unsafe { c::lta_forecast(shape.as_ptr(), shape.len(), mem.as_ptr(), mem.len(), cell) }
 }
 
+/// A loss page into the front of `out`: a printed line for each cell and loss, and one of totals; answers its length.
+pub fn page(shape: &[u64], mem: &[u64], out: &mut [u8]) -> u64 {
+    // SAFETY: each slice's own pointer and length; out is lent for this call alone.
+    unsafe { c::lta_page(shape.as_ptr(), shape.len(), mem.as_ptr(), mem.len(), out.as_mut_ptr(), out.len()) }
+}
+
 /// The fields of a frame of so many lags, in the order of [`Fields::numbers`](crate::Fields::numbers); answers 0.
 pub fn read_frame(lags: u64, bytes: &[u8], head: &mut [u32]) -> u64 {
     // SAFETY: each slice's own pointer and length; head is lent for this call alone.
@@ -265,6 +279,8 @@ mod tests {
                 10 << 32
             );
             assert_eq!(c::lta_forecast(numbers, 7, null(), 0, 0), 2 << 32);
+            assert_eq!(c::lta_page(numbers, 7, null(), 0, null_mut(), 0), 2 << 32);
+            assert_eq!(c::lta_page(numbers, 7, words, 87, null_mut(), 0), 10 << 32);
             assert_eq!(c::lta_read_frame(2, null(), 0, null_mut(), 0), 13 << 32);
             assert_eq!(c::lta_lag_part(2, null(), 0), 0);
             assert_eq!(c::lta_write_frame(2, null(), 0, null(), 0, null_mut(), 0), 16 << 32);

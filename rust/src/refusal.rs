@@ -95,7 +95,7 @@ impl Refusal {
             Refusal::NoBin => "no such bank, phase bin or data bin",
             Refusal::NothingHeld => "Held unoccupied",
             Refusal::NotReady => "bin not Ready",
-            Refusal::ShortBuffer => "buffer shorter than a frame",
+            Refusal::ShortBuffer => "buffer too short for what the call would write",
             Refusal::Damaged => "work memory was written by others",
             Refusal::NoLag => "no such lag or loss",
             Refusal::WrongLength => "wrong length",

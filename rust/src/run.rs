@@ -5,8 +5,8 @@ use crate::{Command, Frame, Loss, Moved, Refusal, Shape, Sums};
 /// A run: a shape and the work memory that belongs to it.
 ///
 /// A run is its shape and its words and nothing else. So runs may be sent to other threads and called there at the
-/// same time, each by whoever owns it; and since [`words`](Run::words), [`reading`](Run::reading) and
-/// [`forecast`](Run::forecast) only read, threads that share a `&Run` may call them at once.
+/// same time, each by whoever owns it; and since [`words`](Run::words), [`reading`](Run::reading),
+/// [`forecast`](Run::forecast) and [`page`](Run::page) only read, threads that share a `&Run` may call them at once.
 ///
 /// ```
 /// use lta::{Command, Loss, Moved, Refusal, Run, Shape};
@@ -212,8 +212,8 @@ impl Run {
     /// A forecast of n holds up to the cell's next accepted dump but 111. Until then the next n accepted ticks join
     /// the cell's Open, and none of them counts the cell among those held off. Each accepted tick after them does, and
     /// goes to [`Loss::Holdoff`]. Refused calls make no difference, nor do calls on other cells, nor the cell's own
-    /// integrations, emissions, readings, forecasts and 111. The end of the run is not taken into account: where it
-    /// comes first, ticks are refused by 4.
+    /// integrations, emissions, readings, forecasts and 111, nor pages. The end of the run is not taken into account:
+    /// where it comes first, ticks are refused by 4.
     ///
     /// So no tick is held off where the host dumps when the forecast is 0, or, if it asks only once in so many ticks,
     /// when the forecast is below their number:
@@ -235,5 +235,56 @@ impl Run {
     /// ```
     pub fn forecast(&self, cell: u64) -> Result<u32, Refusal> {
         outcome(ffi::forecast(&self.numbers, &self.words, cell))
+    }
+
+    /// A loss page, as [`page`](Run::page) gives it, into the front of `out`, whose other bytes stay. Gives the page's
+    /// length, [`Shape::page_length`]. It changes nothing in the run. Refuses 10.
+    ///
+    /// ```
+    /// # use lta::{Refusal, Run, Shape};
+    /// # let shape = Shape { cells: 1, lags: 2, bins: 1, blocks: 1, start: 0, rate: 4, second: 0 };
+    /// let run = Run::new(shape)?;
+    /// let mut out = [b'.'; 300];
+    /// assert_eq!(run.page_into(&mut out[..286]), Err(Refusal::ShortBuffer));
+    /// assert_eq!(run.page_into(&mut out), Ok(287));
+    /// assert_eq!(out[..41], *b" 0 1           0           0           0\n");
+    /// assert_eq!(out[287..], [b'.'; 13]);
+    /// # Ok::<(), Refusal>(())
+    /// ```
+    pub fn page_into(&self, out: &mut [u8]) -> Result<usize, Refusal> {
+        outcome(ffi::page(&self.numbers, &self.words, out)).map(|length| length as usize)
+    }
+
+    /// A loss page: a printed line of 41 bytes for each cell and loss, cells ascending, losses 1 to 6 within a cell,
+    /// and a last line of totals, the sums of those above. It changes nothing. Refuses nothing in a run that only calls
+    /// have written; of words from elsewhere 11, also where the six losses of a cell together have more than
+    /// 2,147,483,648 ticks.
+    ///
+    /// Columns 1-2 have the cell, 4 the loss, 6-16 the ticks, 18-28 the edge count, 30-40 the centre count, each
+    /// right-aligned.
+    ///
+    /// ```
+    /// # use lta::{Command, Run, Shape};
+    /// # let shape = Shape { cells: 1, lags: 2, bins: 1, blocks: 1, start: 0, rate: 4, second: 0 };
+    /// let mut run = Run::new(shape)?;
+    /// run.tick(&[0x02, 0x03])?;
+    /// run.tick(&[0x01, 0x0f])?;
+    /// run.dump(0, Command::Discard, 0, 0)?;
+    /// let page = "
+    ///  0 1           2           1           1
+    ///  0 2           0           0           0
+    ///  0 3           0           0           0
+    ///  0 4           0           0           0
+    ///  0 5           0           0           0
+    ///  0 6           0           0           0
+    /// ** *           2           1           1
+    /// ";
+    /// assert_eq!(run.page()?, page[1..]);
+    /// # Ok::<(), lta::Refusal>(())
+    /// ```
+    pub fn page(&self) -> Result<String, Refusal> {
+        let mut bytes = vec![0; self.shape.page_length()];
+        self.page_into(&mut bytes)?;
+        Ok(bytes.into_iter().map(char::from).collect())
     }
 }

@@ -53,4 +53,14 @@ impl Shape {
     pub fn frame_length(&self) -> usize {
         34 + 8 * self.lags as usize
     }
+
+    /// The bytes of a page of this shape: 41 × (6C + 1).
+    ///
+    /// ```
+    /// # let shape = lta::Shape { cells: 2, lags: 2, bins: 1, blocks: 1, start: 0, rate: 4, second: 0 };
+    /// assert_eq!(shape.page_length(), 533);
+    /// ```
+    pub fn page_length(&self) -> usize {
+        41 * (6 * self.cells as usize + 1)
+    }
 }

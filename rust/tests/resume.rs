@@ -17,6 +17,7 @@ struct Turn {
     frame: Result<Frame<'static>, Refusal>,
     readings: Vec<Result<Sums, Refusal>>,
     forecast: Result<u32, Refusal>,
+    page: Result<String, Refusal>,
 }
 
 fn turn(run: &mut Run, number: u64) -> Turn {
@@ -31,6 +32,7 @@ fn turn(run: &mut Run, number: u64) -> Turn {
         frame: run.emit_frame(cell, bank, SHAPE.blocks * phase + offset),
         readings: pairs.map(|(lag, loss)| run.reading(cell, lag, loss)).collect(),
         forecast: run.forecast(cell),
+        page: run.page(),
     }
 }
 
@@ -103,6 +105,7 @@ fn damaged_words_are_found_by_the_calls() {
     assert_eq!(run.tick(&[0; 4]), Err(Refusal::Damaged));
     assert_eq!(run.integrate(0), Err(Refusal::Damaged));
     assert_eq!(run.forecast(0), Err(Refusal::Damaged));
+    assert_eq!(run.page(), Err(Refusal::Damaged));
     assert_eq!(run, before);
 }
 
@@ -130,8 +133,10 @@ fn threads_own_runs_and_share_readings() {
     let [one, other] = [300, 200].map(|last| std::thread::spawn(move || alone(last)));
     let (one, other) = (one.join().unwrap(), other.join().unwrap());
     assert_eq!((&one, &other), (&alone(300), &alone(200)));
-    let read = || (0..100).map(|_| one.reading(1, 3, Loss::Ordered).unwrap()).collect::<Vec<_>>();
-    let both = std::thread::scope(|scope| [scope.spawn(read), scope.spawn(read)].map(|t| t.join().unwrap()));
+    let read = || (one.reading(1, 3, Loss::Ordered).unwrap(), one.page().unwrap());
+    let often = || (0..100).map(|_| read()).collect::<Vec<_>>();
+    let both =
+        std::thread::scope(|scope| [scope.spawn(often), scope.spawn(often)].map(|t| t.join().unwrap()));
     assert_eq!(both[0], both[1]);
-    assert!(both[0].iter().all(|sums| sums.ticks > 0 && *sums == both[0][0]));
+    assert!(both[0][0].0.ticks > 0 && both[0].iter().all(|read| *read == both[0][0]));
 }

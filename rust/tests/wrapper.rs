@@ -72,6 +72,38 @@ impl Both {
             assert_eq!(self.run.reading(1, lag, loss), direct);
         }
     }
+
+    /// A page of its own, and one in a buffer whose last bytes stay.
+    fn page(&self) {
+        let mut out = [b'.'; 540];
+        let direct = ffi::outcome(ffi::page(&self.shape, &self.mem, &mut out));
+        assert_eq!((direct, &out[533..]), (Ok(533), &[b'.'; 7][..]));
+        let mut lent = [b'.'; 540];
+        assert_eq!((self.run.page_into(&mut lent), lent), (Ok(533), out));
+        assert_eq!(self.run.page().unwrap().as_bytes(), &out[..533]);
+        let mut short = [b'.'; 532];
+        assert_eq!(self.run.page_into(&mut short), Err(Refusal::ShortBuffer));
+        assert_eq!(short, [b'.'; 532]);
+    }
+}
+
+/// A line of a page, from a reading of the loss that it names, or from totals.
+fn line(front: &str, sums: Sums) -> String {
+    let Sums { ticks, edge, centre, .. } = sums;
+    format!("{front} {ticks:>11} {edge:>11} {centre:>11}\n")
+}
+
+/// The page that the readings of a run give.
+fn page_of(run: &Run) -> String {
+    let (mut page, mut totals) = (String::new(), Sums::default());
+    for (cell, loss) in (0..SHAPE.cells).flat_map(|cell| Loss::ALL.map(|loss| (cell, loss))) {
+        let sums = run.reading(cell, 0, loss).unwrap();
+        page += &line(&format!("{cell:>2} {}", loss.number()), sums);
+        totals.ticks += sums.ticks;
+        totals.edge += sums.edge;
+        totals.centre += sums.centre;
+    }
+    page + &line("** *", totals)
 }
 
 /// A frame read and written again is the same; its lags, normalised, are its lags by the centre count.
@@ -104,11 +136,30 @@ fn a_run_is_its_calls() {
         assert_eq!(both.run.words(), both.mem);
         let direct = ffi::outcome(ffi::forecast(&both.shape, &both.mem, cell));
         assert_eq!(both.run.forecast(cell), direct);
+        both.page();
+        assert_eq!(both.run.page(), Ok(page_of(&both.run)));
+        assert_eq!(both.run.words(), both.mem);
     }
     both.readings();
     let losses = [Loss::Ordered, Loss::Overrun, Loss::Full, Loss::Replaced].map(Moved::Lost);
     for moved in losses.into_iter().chain([Moved::Kept, Moved::Idle]) {
         assert!(moves.contains(&moved), "no {moved:?} among the moves");
+    }
+}
+
+/// Six losses that are within their limits and pass 2,147,483,648 ticks together: no page, but readings as before.
+#[test]
+fn a_page_of_damaged_words() {
+    let row = 3 + 2 * SHAPE.lags as usize;
+    let mut words = Run::new(SHAPE).unwrap().words().to_vec();
+    for (loss, ticks) in [(0, 2_147_483_647), (5, 1), (5, 2)] {
+        words[9 + (2 + loss) * row] = ticks;
+        let run = Run::resume(SHAPE, words.clone()).unwrap();
+        let page = if ticks == 2 { Err(Refusal::Damaged) } else { Ok(page_of(&run)) };
+        assert_eq!(run.page(), page, "{ticks} ticks in loss {}", loss + 1);
+        assert_eq!(run.page_into(&mut []), page.and(Err(Refusal::ShortBuffer)), "11 comes before 10");
+        assert_eq!(run.reading(0, 0, Loss::ALL[loss]).unwrap().ticks, ticks);
+        assert_eq!(run.words(), words);
     }
 }
 

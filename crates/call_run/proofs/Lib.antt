@@ -4,3 +4,4 @@ pub mod FirstLaws
 pub mod TestedLaws
 pub mod StepLaws
 pub mod LoanLaws
+pub mod CellsLaws

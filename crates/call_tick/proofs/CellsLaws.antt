@@ -12,13 +12,12 @@ use Rattle.lta_spec.specs.Damage.{tickSound}
 use Rattle.lta_spec.specs.Memory.{Run, runL}
 use Rattle.lta_spec.specs.Step.{unitAt, unitsSound, tickUnits, heldOff}
 use Rattle.lta_spec.specs.declared.Shape.{Shape}
+use Rattle.lta_spec.proofs.TestLaws.{every-at}
 use Rattle.lta_spec.proofs.MemoryLaws.{run-width}
 use Rattle.cell_layout.specs.Lays.{Lays}
 use Rattle.cell_layout.proofs.LaysLaws.{lays-to}
-use Rattle.cell_layout.proofs.RowLaws.{every-at}
 use Rattle.call_run.specs.Runs.{Hosted, runOf}
 use Rattle.call_run.proofs.RunLaws.{length-is, units-length}
-use Rattle.call_tick_tests.proofs.UnitsLaws.{units-every}
 use Rattle.call_tick.specs.Cells.{tickedTo, Ticks, TickedAt}
 
 -- cell c has not taken its samples yet
@@ -95,10 +94,9 @@ module _ (s : Shape) (mem₀ : List ℕ) (h : Hosted s mem₀) (samples : List �
     may-tick e =
         let r = runOf s mem₀ in
         let t : (runOf s mem) .t ≡ r .t = ap (λ (z : Run). z .t) run-is in
-        let all = sym (units-every s (r .t) (r .units)) ∙ e in
         record {
           cell = record { hosted = rw size-kept h; there = k };
-          sound = rw (unit-is, t) (every-at (tickSound (s .lags) (r .t)) (r .units) all c _ inside);
+          sound = rw (unit-is, t) (every-at (tickSound (s .lags) (r .t)) (r .units) e c _ inside);
         }
 
     -- it does

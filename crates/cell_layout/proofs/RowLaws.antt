@@ -2,9 +2,8 @@
 use mathlib.Core.Path.{_≡_, refl, sym, _∙_}
 use mathlib.Core.Logic.{_⊎_, ⊎-elim, inl, inr}
 use mathlib.Core.Bool.{Bool, true, false}
-use mathlib.Core.List.{List, [], _∷_}
+use mathlib.Core.List.{List}
 use Prim.Native.Nat.{ℕ, zero, suc, _+_, _*_, _<_, _≤_}
-use native.Mathlib.Nat.{le-of-suc-le-suc, not-suc-le-zero}
 use native.Mathlib.Omega.{arith}
 use lib.Dec.{ltb}
 use lib.ListN.{length, getD, drop, length-drop, length-replicate, getD-replicate, List·getD-eq-default}
@@ -15,20 +14,14 @@ use Rattle.lta_spec.specs.Row.{ticksOf, sumOk, rowOk}
 use Rattle.lta_spec.specs.Shape.{runLimit}
 use Rattle.lta_spec.specs.Layout.{Layout, block}
 use Rattle.lta_spec.proofs.WordLaws.{length-zeros}
-use Rattle.lta_spec.proofs.TestLaws.{and-both, and-le}
+use Rattle.lta_spec.proofs.TestLaws.{and-le, every-at}
+use Rattle.lta_spec.proofs.RowLaws.{ticks-within}
 use Rattle.lta_spec.proofs.LayoutLaws.{Long}
 use Rattle.words.specs.Moves.{Folds}
 use Rattle.cell_layout.specs.Lays.{Lays}
 use Rattle.cell_layout.specs.Cells.{Small}
 use Rattle.cell_layout.proofs.Field.{Field}
 use Rattle.cell_layout.proofs.LaysLaws.{row-in, row-word}
-
--- the test of every element of a list holds of each
-pub every-at : {A : Type 0} (f : A → Bool) (xs : List A) → every f xs ≡ true → (i : ℕ) (d : A) → i < length xs
-    → f (getD xs i d) ≡ true
-every-at f [] e i d h = absurd (not-suc-le-zero h)
-every-at f (x ∷ xs) e zero d h = (and-both (f x) (every f xs) e) .0
-every-at f (x ∷ xs) e (suc i) d h = every-at f xs ((and-both (f x) (every f xs) e) .1) i d (le-of-suc-le-suc h)
 
 pub lt-or-le : (a b : ℕ) → (a < b) ⊎ (b ≤ a)
 lt-or-le a b = by-test (ltb a b) refl
@@ -38,10 +31,6 @@ lt-or-le a b = by-test (ltb a b) refl
     by-test false e = inr (ltb-false a b e)
 
 module _ (limit : ℕ) (r : List ℕ) (ok : rowOk limit r ≡ true) where
-  pub ticks-within : ticksOf r ≤ limit
-  unfolding rowOk
-  ticks-within = (and-le (ticksOf r) limit _ ok) .0
-
   -- every word of the row is at most 196 times its ticks
   pub word-within : (i : ℕ) → i < length r → getD r i 0 ≤ 196 * ticksOf r
   unfolding rowOk
@@ -71,7 +60,7 @@ module _ (limit : ℕ) (r : List ℕ) (ok : rowOk limit r ≡ true) where
 
   pub small-row : limit ≤ runLimit → Small r
   small-row h i =
-      ⊎-elim (λ k. omega (arith, ticks-within, word-within i k))
+      ⊎-elim (λ k. omega (arith, ticks-within limit r ok, word-within i k))
       (λ k. omega (arith, List·getD-eq-default r 0 {n = i} k)) (lt-or-le i (length r))
 
 pub small-zeros : (n : ℕ) → Small (zeros n)

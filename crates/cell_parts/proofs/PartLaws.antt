@@ -16,12 +16,13 @@ use Rattle.lta_spec.specs.Place.{lossCount}
 use Rattle.lta_spec.specs.Row.{ticksOf, emptyRow, rowOk}
 use Rattle.lta_spec.specs.Engine.{Row, lossAt}
 use Rattle.lta_spec.specs.Damage.{openOk, lossesOk, lossHolds}
+use Rattle.lta_spec.proofs.TestLaws.{every-at}
 use Rattle.cell_layout.specs.Offsets.{occupiedAt, openStampAt, openRowAt, heldRowAt, lossRowAt}
 use Rattle.cell_layout.specs.Cells.{Fits, Small, placesOf}
 use Rattle.cell_layout.proofs.LaysLaws.{word-of, row-of, row-first}
 use Rattle.cell_layout.proofs.Fields as F
 use Rattle.cell_layout.proofs.CellLaws.{laid, lists}
-use Rattle.cell_layout.proofs.RowLaws.{every-at, lt-or-le, small-row}
+use Rattle.cell_layout.proofs.RowLaws.{lt-or-le, small-row}
 
 -- a sum's test without the sum
 pub sum-over : (a b limit : ℕ) → limit < a → false ≡ leb (a + b) limit

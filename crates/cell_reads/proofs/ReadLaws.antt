@@ -17,12 +17,12 @@ use Rattle.lta_spec.specs.Row.{ticksOf, unbiased, rowOk}
 use Rattle.lta_spec.specs.Engine.{Row, lossAt}
 use Rattle.lta_spec.specs.Damage.{lossesOk, openOk}
 use Rattle.lta_spec.proofs.TestLaws.{and-both}
+use Rattle.lta_spec.proofs.RowLaws.{ticks-within}
 use Rattle.cell_layout.specs.Offsets.{openRowAt, lossRowAt}
 use Rattle.cell_layout.specs.Cells.{Fits, sumLimit, placesOf}
 use Rattle.cell_layout.proofs.LaysLaws.{row-word}
 use Rattle.cell_layout.proofs.Fields as F
 use Rattle.cell_layout.proofs.CellLaws.{laid}
-use Rattle.cell_layout.proofs.RowLaws.{ticks-within}
 use Rattle.cell_parts.proofs.PartLaws.{open-ticks, loss-ok, loss-small}
 
 -- a difference of two small naturals fits a signed word

@@ -4,21 +4,16 @@ use mathlib.Core.Logic.{inr}
 use mathlib.Core.List.{List, [], _∷_, _++_}
 use Prim.Native.Nat.{ℕ, _+_, _≤_}
 use native.Mathlib.Omega.{arith}
-use lib.ListN.{length, getD, take, drop}
-use lib.Seq.{take-add, drop-drop}
+use lib.ListN.{length, getD}
 use Rattle.lta_spec.specs.Words.{part, splice, sums}
 use Rattle.lta_spec.proofs.WordLaws.{
   getD-splice-after,
   splice-append,
   length-sums,
   length-part,
-  part-splice-same,
+  part-add,
   part-splice-apart,
 }
-
-pub take-front : (l vs : List ℕ) (m : ℕ) → length vs ≡ m → m ≤ length l → take m (splice l 0 vs) ≡ vs
-unfolding part
-take-front l vs m e h = rw (← e) (part-splice-same l 0 vs (omega arith))
 
 -- sums of two runs, one behind the other
 sums-append : (xs ys us vs : List ℕ) → length xs ≡ length ys
@@ -27,10 +22,6 @@ sums-append [] [] us vs e = refl
 sums-append [] (y ∷ ys) us vs e = absurd (omega arith)
 sums-append (x ∷ xs) [] us vs e = absurd (omega arith)
 sums-append (x ∷ xs) (y ∷ ys) us vs e = ap (λ (r : List ℕ). (x + y) ∷ r) (sums-append xs ys us vs (omega arith))
-
-part-add : (l : List ℕ) (at m n : ℕ) → part at (m + n) l ≡ part at m l ++ part (at + m) n l
-unfolding part
-part-add l at m n = rw (take-add m n (drop at l), drop-drop m at l)
 
 -- words added to a row, and then to what stands behind it
 pub added-append : (l : List ℕ) (at : ℕ) (us vs : List ℕ) (m n : ℕ) → length us ≡ m → length vs ≡ n

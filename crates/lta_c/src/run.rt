@@ -9,7 +9,7 @@ use host_pack::numbers::shape_of;
 use host_pack::pack::pack;
 use host_values::store_sums;
 ghost use mathlib.Core.Path.{_≡_};
-ghost use Rattle.lta_spec.specs.Call.Call.{tick, dump, integrate, emit, forecast};
+ghost use Rattle.lta_spec.specs.Call.Call.{tick, dump, integrate, emit, forecast, page};
 ghost use Rattle.lta_spec.specs.Step.{sizeAnswer, setupAnswer, setupLeaves, step};
 ghost use Rattle.host_pack.specs.Boundary.{shapeOf, packed, stored, sumsIn, countsIn};
 ghost use Rattle.lta_c.specs.Answers.{readingTold};
@@ -131,4 +131,15 @@ pub extern "C" fn lta_forecast(shape: &[u64], mem: &[u64], cell: u64) -> u64
         ≡ packed ((step (shapeOf (now (shape .entry))) (forecast cell) (now (mem .entry))) .answer) ⌝ }
 {
     pack(forecast(lta::forecast(shape_of(shape), mem, cell)))
+}
+
+// A loss page into the front of out.
+#[no_mangle]
+pub extern "C" fn lta_page(shape: &[u64], mem: &[u64], out: &mut [u8]) -> u64
+    ensures answer { λ r. ⌜ r
+        ≡ packed ((step (shapeOf (now (shape .entry))) (page (now (out .entry))) (now (mem .entry))) .answer) ⌝ }
+    ensures page { λ _. ⌜ now (out .exit)
+        ≡ (step (shapeOf (now (shape .entry))) (page (now (out .entry))) (now (mem .entry))) .out ⌝ }
+{
+    pack(written(lta::page(shape_of(shape), mem, &mut *out)))
 }

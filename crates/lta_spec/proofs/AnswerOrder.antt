@@ -3,6 +3,7 @@ use mathlib.Core.Path.{refl}
 use Rattle.lta_spec.specs.Words.{part}
 use Rattle.lta_spec.specs.Shape.{lagCountOk, shapeOk}
 use Rattle.lta_spec.specs.Size.{memoryWords, hostTests}
+use Rattle.lta_spec.specs.Page.{pageLength}
 use Rattle.lta_spec.specs.Frame.{fieldsOf, fixedOk, fieldsOk}
 use Rattle.lta_spec.specs.FrameCalls.{marked, summed, ruled, readVerdict, writeVerdict, normalVerdict}
 use Rattle.lta_spec.specs.Call.{commandOk, phaseOk, emittedFields}
@@ -20,8 +21,9 @@ unfolding
     writeVerdict normalVerdict emittedFields commandOk phaseOk rowOk E.binAt E.hasRoom E.forecastOf E.tickBy
     E.tickUnit E.resets E.offsetAfter E.counted E.dumpBy E.dumpCell E.holdOpen S.tickUnits S.heldOff S.withDump
     S.accepted D.counterOk D.dumpUnitSound D.lossesOk D.tickSound D.dumpHolds D.dumpParts D.dumpSound
-    D.integrateHolds D.integrateBinSound D.integrateSound D.emitSound word block pair many fields binL unitL
-    runL S.unitsSound S.verdict S.step
+    D.integrateHolds D.integrateBinSound D.integrateSound D.emitSound D.pageSound pageLength word
+    block pair many fields binL unitL
+    runL S.verdict S.step
 orders =
     record {
       sampler = refl;
@@ -40,6 +42,9 @@ orders =
       forecaster-others = refl;
       forecaster-open = refl;
       forecaster-stamp = refl;
+      pager = refl;
+      pager-others = refl;
+      pager-losses = refl;
       sender = refl;
       normaliser = refl;
       writer = refl;

@@ -19,6 +19,10 @@ abbrev pub Below : ℕ → List ℕ → Type 0
 Below k [] = Unit {0}
 Below k (x ∷ l) = (x < k) × Below k l
 
+pub below-all : (k : ℕ) (l : List ℕ) → ((i : ℕ) → getD l i 0 < k) → Below k l
+below-all k [] h = tt
+below-all k (x ∷ l) h = (h 0, below-all k l (λ i. h (suc i)))
+
 pub below-append : (k : ℕ) (l m : List ℕ) → Below k l → Below k m → Below k (l ++ m)
 below-append k [] m h g = g
 below-append k (x ∷ l) m h g = (h .0, below-append k l m (h .1) g)

@@ -11,7 +11,7 @@ use Rattle.lta_spec.specs.Refusals.{Test, refusalNumber, firstOf, decide
 use Rattle.lta_spec.specs.Size.{memoryWords, hostTests}
 use Rattle.lta_spec.specs.Words.{every}
 use Rattle.lta_spec.specs.Call.{Call, lentTo}
-use Rattle.lta_spec.specs.Call.Call.{tick, dump, integrate, emit, reading, forecast}
+use Rattle.lta_spec.specs.Call.Call.{tick, dump, integrate, emit, reading, forecast, page}
 use Rattle.lta_spec.specs.Answer.{refusal}
 use Rattle.lta_spec.specs.Answer.Answer.{refused}
 use Rattle.lta_spec.specs.MachineRun as R
@@ -54,6 +54,7 @@ tests-other sh r words (integrate c) = refl
 tests-other sh r words (emit c bank bin out) = refl
 tests-other sh r words (reading c lag loss) = refl
 tests-other sh r words (forecast c) = refl
+tests-other sh r words (page out) = refl
 
 -- an accepted call answers a number or an entry
 accepted-other : (sh : Shape) (call : Call) (r : R.Run) → (R.accepted sh call r) .answer ≡ refused 11 → ⊥
@@ -64,6 +65,7 @@ accepted-other sh (integrate c) r e = let z : _≡_ {A = ℕ} 0 1 = cc in omega 
 accepted-other sh (emit c bank bin out) r e = let z : _≡_ {A = ℕ} 0 1 = cc in omega arith
 accepted-other sh (reading c lag loss) r e = let z : _≡_ {A = ℕ} 0 1 = cc in omega arith
 accepted-other sh (forecast c) r e = let z : _≡_ {A = ℕ} 0 1 = cc in omega arith
+accepted-other sh (page out) r e = let z : _≡_ {A = ℕ} 0 1 = cc in omega arith
 
 step-other : (sh : Shape) (words : ℕ) (call : Call) (r : R.Run) → (R.step sh words call r) .answer ≡ refused 11 → ⊥
 unfolding R.step R.verdict

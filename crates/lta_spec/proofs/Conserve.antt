@@ -1,47 +1,28 @@
 -- Whatever adds up over ticks keeps its total over the places of a cell of the machine; a tick adds its own.
-use Prim.Native.Nat.{ℕ, zero, suc, _+_, _≤_, _<_}
-use mathlib.Core.Path.{_≡_, refl, ap}
+use Prim.Native.Nat.{ℕ, _+_, _<_}
+use mathlib.Core.Path.{_≡_, refl}
 use mathlib.Core.Bool.{Bool, true, false}
 use mathlib.Core.List.{List, [], _∷_, _++_, map}
-use native.Mathlib.Nat.{not-suc-le-zero, le-of-suc-le-suc}
 use native.Mathlib.Omega.{arith}
 use lib.Dec.{eqb}
 use lib.ListN.{length, getD, set}
+use Rattle.lta_spec.specs.Words.{overAll}
 use Rattle.lta_spec.specs.Place.{Label, Bin, Cell, free, filling, lossCount, ordered, overrun, full, replaced}
 use Rattle.lta_spec.specs.Place.{tooWide, holdoff}
 use Rattle.lta_spec.specs.Call.{last, binIndex}
 use Rattle.lta_spec.specs.Machine as M
 use Rattle.lta_spec.specs.Machine.{Ticks, stamped}
 use Rattle.lta_spec.specs.MachineRun as R
-use Rattle.lta_spec.specs.Demand.{places, overAll}
+use Rattle.lta_spec.specs.Demand.{places}
+use Rattle.lta_spec.proofs.WordLaws.{over-append, over-map, over-set}
 
 -- the sum of a quantity over a set
 abbrev pub tally : (ℕ → ℕ) → Ticks → ℕ
 tally f s = overAll f s
 
-pub over-append : {A : Type 0} (f : A → ℕ) (a b : List A) → overAll f (a ++ b) ≡ overAll f a + overAll f b
-over-append f [] b = omega arith
-over-append f (x ∷ a) b = omega (arith, over-append f a b)
-
 pub tally-ones : (s : Ticks) → tally (λ i. 1) s ≡ length s
 tally-ones [] = refl
 tally-ones (i ∷ s) = omega (arith, tally-ones s)
-
--- sums over a list: one element changed, one element, a join, through a map
-pub over-set : {A : Type 0} (f : A → ℕ) (d : A) (l : List A) (i : ℕ) (a : A) → i < length l
-    → overAll f (set l i a) + f (getD l i d) ≡ overAll f l + f a
-over-set f d [] i a h = absurd (not-suc-le-zero h)
-over-set f d (x ∷ xs) zero a h = omega arith
-over-set f d (x ∷ xs) (suc i) a h = omega (arith, over-set f d xs i a (le-of-suc-le-suc h))
-
-pub over-at : {A : Type 0} (f : A → ℕ) (d : A) → f d ≡ 0 → (l : List A) (i : ℕ) → f (getD l i d) ≤ overAll f l
-over-at f d e [] i = omega arith
-over-at f d e (x ∷ xs) zero = omega arith
-over-at f d e (x ∷ xs) (suc i) = omega (arith, over-at f d e xs i)
-
-pub over-map : {A B : Type 0} (f : B → ℕ) (g : A → B) (l : List A) → overAll f (map g l) ≡ overAll (λ a. f (g a)) l
-over-map f g [] = refl
-over-map f g (x ∷ l) = ap (λ r. f (g x) + r) (over-map f g l)
 
 -- the places of a cell but its frames, and all of them
 abbrev pub overCell : (Ticks → ℕ) → Cell Ticks → ℕ

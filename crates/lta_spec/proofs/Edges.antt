@@ -21,6 +21,8 @@ use Rattle.lta_spec.specs.Tick.{
 }
 use Rattle.lta_spec.specs.Words.{part}
 use Rattle.lta_spec.specs.Place.{Label, Cell}
+use Rattle.lta_spec.specs.Decimal.{decimalWithin, decimal, rightAligned}
+use Rattle.lta_spec.specs.Page.{countsSum, pageLine, cellLines, ledgerLines, pageOf, pageLength}
 use Rattle.lta_spec.specs.Frame.{sealed, frameOf, header, fieldsOf, fixedOk, fieldsOk}
 use Rattle.lta_spec.specs.FrameCalls.{marked, summed, ruled, normalVerdict}
 use Rattle.lta_spec.specs.Call.{discard, commandOk, phaseOk, emittedFields}
@@ -42,7 +44,8 @@ unfolding
     quadratureAt sealed frameOf header commandOk phaseOk emittedFields M.lose M.hasRoom M.tickBy M.tickCell
     M.forecastOf M.loseOpen M.holdOpen M.dumpBy M.dumpCell M.returns M.oneOn M.counted M.release M.stateAfter
     M.stampAfter M.integrateBy M.binAt M.integrateAt M.integrateCell M.emptyBin N.upTo N.inPhaseSum
-    N.quadratureSum N.validCount N.setFrame R.verdict R.tickUnits R.heldOff R.withDump R.withCell R.emitted
+    N.quadratureSum N.validCount N.setCounts N.setFrame decimalWithin decimal rightAligned countsSum pageLine
+    cellLines ledgerLines pageOf pageLength R.lossPage R.verdict R.tickUnits R.heldOff R.withDump R.withCell R.emitted
     R.withFrame R.accepted R.step machineReturns
 machine-returned = (refl, refl)
 

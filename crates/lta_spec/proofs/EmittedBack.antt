@@ -8,10 +8,9 @@ use native.Mathlib.Nat.{mod-lt, div-le-self}
 use native.Mathlib.Omega.{arith}
 use lib.Dec.{leb, ltb, eqb}
 use lib.IntN.{ℤ}
-use lib.ListN.{length, getD, take, drop, length-drop}
-use lib.Seq.{take-at}
+use lib.ListN.{length, drop, length-drop}
 use borrow.Author.Tests.{leb-true, ltb-true, eqb-true}
-use Rattle.lta_spec.specs.Words.{splice, every}
+use Rattle.lta_spec.specs.Words.{every}
 use Rattle.lta_spec.specs.Refusals.{firstOf}
 use Rattle.lta_spec.specs.Shape.{shapeTests, shapeOk, lagCountOk, runLimit, binLimit}
 use Rattle.lta_spec.specs.Size.{rowWords, memoryWords, hostTests}
@@ -29,10 +28,10 @@ use Rattle.lta_spec.specs.RoundTrip.{RoundTrip, RowBack, storedBin, emit
 use Rattle.lta_spec.specs.declared.Fields.{Fields}
 use Rattle.lta_spec.specs.declared.Shape.{Shape}
 use Rattle.lta_spec.specs.declared.Verdict.the-variants as verdict
-use Rattle.lta_spec.proofs.WordLaws.{splice-eq}
+use Rattle.lta_spec.proofs.WordLaws.{take-splice}
+use Rattle.lta_spec.proofs.ByteLaws.{below-all}
 use Rattle.lta_spec.proofs.TestLaws.{and-both, and-le, pass, pass-both, first-append}
 use Rattle.lta_spec.proofs.ShapeLaws.{all-at, Shaped, shaped}
-use Rattle.lta_spec.proofs.ByteLaws.{Below}
 use Rattle.lta_spec.proofs.RoundTrips.{Valid, fields-ok, written, length-written}
 use Rattle.lta_spec.proofs.RoundTrips.{read-written, lags-read, leaves-read, leaves-lags, leaves-again}
 use Rattle.lta_spec.proofs.Encoding.{sums-within}
@@ -119,9 +118,6 @@ module _ (sh : Shape) (ok : shapeOk sh ≡ true) (c bank bin : ℕ) (b : Stamped
   row-length = length-written (sh .lags) sent lags room writable
 
 -- what is written at the start of a buffer with room is what stands there
-pub front : (out fs : List ℕ) (k : ℕ) → length fs ≡ k → k ≤ length out → take k (splice out 0 fs) ≡ fs
-front out fs k e h = rw (splice-eq out 0 fs (omega arith)) (take-at fs _ k e)
-
 -- an accepted emission
 module _ (sh : Shape) (c bank bin : ℕ) (mem out : List ℕ)
     (v : S.verdict sh mem (emit c bank bin out) ≡ verdict.Accepted) where
@@ -202,13 +198,8 @@ module _ (sh : Shape) (c bank bin : ℕ) (mem out : List ℕ)
       let frame = S.rowFrame sh c bank bin stored in
       let fits =
       row-length sh shape-ok c bank bin stored (p .inCells) (p .inBanks) (p .inBins) long (limits .1) (limits .0) in
-      let e : emittedTo sh c bank bin mem out ≡ frame = rw v (front out frame _ fits (p .room)) in
+      let e : emittedTo sh c bank bin mem out ≡ frame = rw v (take-splice out frame _ fits (p .room)) in
       rw e (row-back sh shape-ok c bank bin stored (p .inCells) (p .inBanks) (p .inBins) long (limits .1) (limits .0))
-
--- every element of a list below a bound
-below-all : (k : ℕ) (l : List ℕ) → ((i : ℕ) → getD l i 0 < k) → Below k l
-below-all k [] h = tt
-below-all k (x ∷ l) h = (h 0, below-all k l (λ i. h (suc i)))
 
 pub round-trip : RoundTrip
 round-trip =

@@ -7,7 +7,7 @@ use lib.ListN.{length, getD, replicate, length-map, length-replicate}
 use lib.Seq.{take-all}
 use Rattle.lta_spec.specs.Refusals.{firstOf, decided}
 use Rattle.lta_spec.specs.Size.{depth, memoryWords, hostTests}
-use Rattle.lta_spec.specs.Words.{zeros}
+use Rattle.lta_spec.specs.Words.{zeros, overAll}
 use Rattle.lta_spec.specs.Place.{Bin, lossCount}
 use Rattle.lta_spec.specs.Call.{Call, lentTo}
 use Rattle.lta_spec.specs.Answer.{refusal}
@@ -19,7 +19,6 @@ use Rattle.lta_spec.specs.Memory as W
 use Rattle.lta_spec.specs.Memory.{runL}
 use Rattle.lta_spec.specs.Step as S
 use Rattle.lta_spec.specs.Demand.{Listed, AllStand, Refuses, machineReturns, machineRun, engineReturns, engineMem}
-use Rattle.lta_spec.specs.Demand.{overAll}
 use Rattle.lta_spec.specs.Demand.Listed.{onRun, onOther}
 use Rattle.lta_spec.specs.declared.Shape.{Shape}
 use Rattle.lta_spec.specs.declared.Refusal.{Refusal}
@@ -112,7 +111,7 @@ module _ (sh : Shape) (wide : 2 ≤ sh .lags) (e : W.Run) (m : R.Run) (s : SameR
       (sym (s .t)) (accepted-same sh wide (m .t) (e .units) (m .units) (s .limit) (s .cells) (s .units) call v)
 
   -- the verdict, behind the tests of shape and length
-  verdicts : S.verdict sh ((runL sh) .put e) call ≡ R.verdict sh m (memoryWords sh) call
+  pub verdicts : S.verdict sh ((runL sh) .put e) call ≡ R.verdict sh m (memoryWords sh) call
   unfolding S.verdict R.verdict
   verdicts =
       rw (sized sh e m s, loaded sh e m s)

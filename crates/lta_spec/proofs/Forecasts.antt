@@ -9,6 +9,7 @@ use lib.Dec.{ltb}
 use lib.ListN.{length, getD, take, drop, length-append, drop-of-length-le, List·getD-map}
 use lib.Seq.{append-snoc, take-all}
 use borrow.Author.Tests.{ltb-true, ltb-false, eq-eqb, ne-eqb}
+use Rattle.lta_spec.specs.Words.{overAll}
 use Rattle.lta_spec.specs.Refusals.{decided}
 use Rattle.lta_spec.specs.Shape.{shapeOk, runLimit, openLimit}
 use Rattle.lta_spec.specs.Size.{memoryWords}
@@ -22,7 +23,7 @@ use Rattle.lta_spec.specs.MachineRun as R
 use Rattle.lta_spec.specs.Memory as W
 use Rattle.lta_spec.specs.Step as S
 use Rattle.lta_spec.specs.Demand.{Listed, AllStand, machineReturns, machineRun, machineStep}
-use Rattle.lta_spec.specs.Demand.{engineReturns, memAfter, machineAfter, overAll, isTick, timesIn}
+use Rattle.lta_spec.specs.Demand.{engineReturns, memAfter, machineAfter, isTick, timesIn}
 use Rattle.lta_spec.specs.Demand.Listed.{onRun, onOther}
 use Rattle.lta_spec.specs.Forecasts.{inTurn, tickTold, dumpTold, wellFormed, ticksFrom, openSet, holdoffSet}
 use Rattle.lta_spec.specs.Forecasts.{cellsHeldOff, ForecastMeans}
@@ -31,7 +32,7 @@ use Rattle.lta_spec.specs.declared.Verdict.{Verdict}
 use Rattle.lta_spec.specs.declared.Verdict.the-variants.{Accepted, Refused}
 use Rattle.lta_spec.proofs.TestLaws.{pass}
 use Rattle.lta_spec.proofs.ShapeLaws.{shaped}
-use Rattle.lta_spec.proofs.Conserve.{over-append, over-map}
+use Rattle.lta_spec.proofs.WordLaws.{over-append, over-map}
 use Rattle.lta_spec.proofs.SameRun.{SameRun, unit-same}
 use Rattle.lta_spec.proofs.Follow.{follow, start-same, run-same, accepts, turned}
 use Rattle.lta_spec.proofs.Holdoff.{six, tick-open, tick-six, none-yet, tick-now, tick-earlier, tick-cell}

@@ -17,7 +17,7 @@ use Rattle.lta_spec.specs.Place.{Cell, ready}
 use Rattle.lta_spec.specs.Bytes.{numberWord}
 use Rattle.lta_spec.specs.Frame.{accumulated, frameLength, lagWords, header}
 use Rattle.lta_spec.specs.Call.{Call, lentTo, bankOk, binIndex}
-use Rattle.lta_spec.specs.Call.Call.{tick, dump, integrate, emit, reading, forecast}
+use Rattle.lta_spec.specs.Call.Call.{tick, dump, integrate, emit, reading, forecast, page}
 use Rattle.lta_spec.specs.Answer.{refusal}
 use Rattle.lta_spec.specs.Answer.Answer.{refused, number}
 use Rattle.lta_spec.specs.Machine as M
@@ -31,9 +31,9 @@ use Rattle.lta_spec.specs.Demand.Listed.{onRun, onOther}
 use Rattle.lta_spec.specs.declared.Shape.{Shape}
 use Rattle.lta_spec.specs.declared.Verdict.{Verdict}
 use Rattle.lta_spec.specs.declared.Verdict.the-variants.{Accepted, Refused}
+use Rattle.lta_spec.proofs.WordLaws.{take-splice}
 use Rattle.lta_spec.proofs.TestLaws.{pass}
 use Rattle.lta_spec.proofs.FrameLaws.{length-frame}
-use Rattle.lta_spec.proofs.EmittedBack.{front}
 use Rattle.lta_spec.proofs.SameRun.{SameRun, frame-same}
 use Rattle.lta_spec.proofs.Follow.{run-same, accepts, turned}
 
@@ -116,7 +116,7 @@ module _ (sh : Shape) (wide : 2 ≤ sh .lags) (e : W.Run) (m : R.Run) (s : SameR
 
     stands : take (frameLength accumulated (sh .lags)) (splice out 0 frame) ≡ frame
     stands =
-        front out frame _ (frame-length sh d (was .xs) (was .ys) sent)
+        take-splice out frame _ (frame-length sh d (was .xs) (was .ys) sent)
         (leb-true (frameLength accumulated (sh .lags)) (length out) room)
 
     later : (gx gy : List ℕ) → frame ≡ setFrame sh d (gx ++ was .xs) (gy ++ was .ys) sent
@@ -170,6 +170,7 @@ module _ (sh : Shape) (wide : 2 ≤ sh .lags) (e : W.Run) (m : R.Run) (s : SameR
       emitted-framed d bank bin out (x .0) (w .0)
   accepted-framed (reading d lag loss) v = p
   accepted-framed (forecast d) v = p
+  accepted-framed (page out) v = p
 
   refused-returned : (call : Call) (k : ℕ)
       → returnedBy call (record { answer = refused k; out = lentTo call; run = m }) ≡ []
@@ -183,6 +184,7 @@ module _ (sh : Shape) (wide : 2 ≤ sh .lags) (e : W.Run) (m : R.Run) (s : SameR
       by-test false = refl
   refused-returned (reading d lag loss) k = refl
   refused-returned (forecast d) k = refl
+  refused-returned (page out) k = refl
 
   run-framed : (call : Call)
       → Framed sh c (returnedBy call (R.step sh (memoryWords sh) call m) ++ fs)

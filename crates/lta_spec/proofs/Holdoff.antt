@@ -9,19 +9,20 @@ use lib.Dec.{eqb}
 use lib.ListN.{length, getD, set, drop}
 use lib.Seq.{getD-set-same, getD-set-other, map-set-same}
 use borrow.Author.Tests.{eq-eqb, eqb-true, ne-eqb}
+use Rattle.lta_spec.specs.Words.{overAll}
 use Rattle.lta_spec.specs.Refusals.{firstOf, decided}
 use Rattle.lta_spec.specs.Shape.{shapeOk, runLimit}
 use Rattle.lta_spec.specs.Size.{memoryWords, hostTests}
 use Rattle.lta_spec.specs.Place.{Label, Bin, Cell, ordered, overrun, full, replaced, tooWide, holdoff, lossCount}
 use Rattle.lta_spec.specs.Call.{Call, lentTo, idle}
-use Rattle.lta_spec.specs.Call.Call.{tick, dump, integrate, emit, reading, forecast}
+use Rattle.lta_spec.specs.Call.Call.{tick, dump, integrate, emit, reading, forecast, page}
 use Rattle.lta_spec.specs.Answer.{refusal}
 use Rattle.lta_spec.specs.Machine as M
 use Rattle.lta_spec.specs.Machine.{Ticks}
 use Rattle.lta_spec.specs.MachineRun as R
 use Rattle.lta_spec.specs.Engine as E
 use Rattle.lta_spec.specs.Memory as W
-use Rattle.lta_spec.specs.Demand.{Listed, Returned, overAll, isTick, timesIn}
+use Rattle.lta_spec.specs.Demand.{Listed, Returned, isTick, timesIn}
 use Rattle.lta_spec.specs.Demand.Listed.{onRun}
 use Rattle.lta_spec.specs.Forecasts.{tickTold, dumpTold, wellFormed, openSet, holdoffSet}
 use Rattle.lta_spec.specs.declared.Shape.{Shape}
@@ -30,7 +31,8 @@ use Rattle.lta_spec.specs.declared.Refusal.the-variants.{WrongSamples, R
 use Rattle.lta_spec.specs.declared.Verdict.{Verdict}
 use Rattle.lta_spec.specs.declared.Verdict.the-variants.{Accepted, Refused}
 use Rattle.lta_spec.proofs.TestLaws.{pass}
-use Rattle.lta_spec.proofs.Conserve.{over-append, over-at, over-places}
+use Rattle.lta_spec.proofs.WordLaws.{over-append, over-at}
+use Rattle.lta_spec.proofs.Conserve.{over-places}
 use Rattle.lta_spec.proofs.Totals.{none-below}
 use Rattle.lta_spec.proofs.SameCell.{Good}
 use Rattle.lta_spec.proofs.SameRun.{AllSame, SameRun}
@@ -230,6 +232,7 @@ module _ (sh : Shape) (c : ℕ) where
     refused-keeps (emit d bank bin out) why v = no-tick _ m _ refl refl refl refl refl
     refused-keeps (reading d lag loss) why v = no-tick _ m _ refl refl refl refl refl
     refused-keeps (forecast d) why v = no-tick _ m _ refl refl refl refl refl
+    refused-keeps (page out) why v = no-tick _ m _ refl refl refl refl refl
 
     accepted-does : (call : Call) → firstOf (R.callTests sh m call) ≡ Accepted
         → dumpTold c (onRun call) (told (R.accepted sh call m)) ≡ [] → Outcome (onRun call) m (R.accepted sh call m)
@@ -255,6 +258,7 @@ module _ (sh : Shape) (c : ℕ) where
         (map-set-same holdoffSet (m .units) d _ (R.freshUnit sh) refl))
     accepted-does (reading d lag loss) v none = keeps (no-tick _ m _ refl refl refl refl refl)
     accepted-does (forecast d) v none = keeps (no-tick _ m _ refl refl refl refl refl)
+    accepted-does (page out) v none = keeps (no-tick _ m _ refl refl refl refl refl)
 
     -- every call on the run that is no accepted dump of cell c but 111
     pub step-does : 2 ≤ sh .lags → (e : W.Run) → SameRun sh e m → (call : Call)

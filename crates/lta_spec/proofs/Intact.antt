@@ -1,6 +1,6 @@
 -- The engine's tests of 11 pass on a cell whose places hold the rows of a sound cell's sets.
 use Prim.Native.Nat.{ℕ, zero, suc, _+_, _*_, _≤_, _<_}
-use mathlib.Core.Path.{_≡_, refl}
+use mathlib.Core.Path.{_≡_, refl, ap₂}
 use mathlib.Core.Bool.{Bool, true, false, cond, _&&_, _||_}
 use mathlib.Core.List.{List, [], _∷_, map}
 use native.Mathlib.Omega.{arith}
@@ -8,7 +8,7 @@ use lib.Dec.{leb, eqb}
 use lib.ListN.{length, getD}
 use borrow.Author.Tests.{le-leb, lt-ltb, eq-eqb}
 use Rattle.lta_spec.specs.Shape.{openLimit, binLimit, runLimit}
-use Rattle.lta_spec.specs.Words.{every}
+use Rattle.lta_spec.specs.Words.{every, overAll}
 use Rattle.lta_spec.specs.Place.{Stamped, Cell}
 use Rattle.lta_spec.specs.Row.{ticksOf, rowOk}
 use Rattle.lta_spec.specs.Machine as M
@@ -16,10 +16,10 @@ use Rattle.lta_spec.specs.Machine.{Ticks}
 use Rattle.lta_spec.specs.Engine as E
 use Rattle.lta_spec.specs.Engine.{Row}
 use Rattle.lta_spec.specs.Damage as D
-use Rattle.lta_spec.specs.Demand.{overAll}
 use Rattle.lta_spec.proofs.RowLaws.{numbers-size, row-ok, window, window-ok}
 use Rattle.lta_spec.proofs.Carry.{row, mapStamped, mapBin, mapCell, bin-carry, loss-carry}
-use Rattle.lta_spec.proofs.Conserve.{overCell, over-at}
+use Rattle.lta_spec.proofs.WordLaws.{over-at}
+use Rattle.lta_spec.proofs.Conserve.{overCell}
 use Rattle.lta_spec.proofs.Sound.{Sound}
 
 both : {a b : Bool} → a ≡ true → b ≡ true → a && b ≡ true
@@ -154,6 +154,17 @@ module _ (n B t : ℕ) (xs ys : List ℕ) (c : Cell Ticks) (s : Sound B t c) (fe
 
     pub read-intact : D.readSound e ≡ true
     read-intact = losses-ok
+
+    -- the six losses together have no more ticks than there were
+    together : (ls : List Ticks) → overAll ticksOf (map (row n xs ys) ls) ≡ overAll length ls
+    together [] = refl
+    together (s ∷ ls) = ap₂ _+_ (numbers-size n xs ys s) (together ls)
+
+    pub page-intact : D.pageSound e ≡ true
+    unfolding D.pageSound mapCell
+    page-intact =
+        both losses-ok
+        (le-leb (overAll ticksOf (map (row n xs ys) (c .losses))) runLimit (omega (arith, together (c .losses))))
 
     pub forecast-intact : D.forecastSound t e ≡ true
     forecast-intact = open-ok

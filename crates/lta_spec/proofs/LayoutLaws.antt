@@ -81,6 +81,15 @@ all-get P [] d a i h = absurd (not-suc-le-zero h)
 all-get P (x ∷ xs) d a zero h = a .0
 all-get P (x ∷ xs) d a (suc i) h = all-get P xs d (a .1) i (le-of-suc-le-suc h)
 
+pub all-take : {A : Type 0} (P : A → Type 0) (xs : List A) (i : ℕ) → All P xs → All P (take i xs)
+all-take P xs zero a = tt
+all-take P [] (suc i) a = tt
+all-take P (x ∷ xs) (suc i) a = (a .0, all-take P xs i (a .1))
+
+pub all-append : {A : Type 0} (P : A → Type 0) (a b : List A) → All P a → All P b → All P (a ++ b)
+all-append P [] b p q = q
+all-append P (x ∷ a) b p q = (p .0, all-append P a b (p .1) q)
+
 -- a list of n values, each Ok
 abbrev pub Each : {A : Type 0} → ℕ → (A → Type 0) → List A → Type 0
 Each n P xs = (length xs ≡ n) × All P xs

@@ -1,6 +1,7 @@
--- What follows from the definitions of specs/: laws for the proofs of the other crates, and the six statements of
--- specs/: Encoding, RoundTrip (in EmittedBack), Demand, Forecasts, Edges and AnswerOrder.
+-- What follows from the definitions of specs/: laws for the proofs of the other crates, and the seven statements of
+-- specs/: Encoding, RoundTrip (in EmittedBack), Demand, Forecasts, LossPages, Edges and AnswerOrder.
 pub mod WordLaws
+pub mod DecimalLaws
 pub mod TestLaws
 pub mod ShapeLaws
 pub mod ByteLaws
@@ -11,6 +12,8 @@ pub mod TickLaws
 pub mod RowLaws
 pub mod Encoding
 pub mod SetLaws
+pub mod PageLaws
+pub mod LedgerLaws
 pub mod LayoutLaws
 pub mod MemoryLaws
 pub mod EmittedBack
@@ -29,6 +32,7 @@ pub mod ReadBack
 pub mod Demand
 pub mod Holdoff
 pub mod Forecasts
+pub mod LossPages
 pub mod BlockRows
 pub mod Edges
 pub mod AnswerOrder

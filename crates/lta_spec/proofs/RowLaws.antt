@@ -18,7 +18,7 @@ use Rattle.lta_spec.specs.Row.{ticksOf, edgeOf, centreOf, emptyRow, bias
 use Rattle.lta_spec.specs.Row.{entryWord, fromWord, entryOk}
 use Rattle.lta_spec.specs.Machine.{Ticks}
 use Rattle.lta_spec.specs.Numbers.{upTo}
-use Rattle.lta_spec.proofs.TestLaws.{and-both}
+use Rattle.lta_spec.proofs.TestLaws.{and-both, and-le, every-take}
 use Rattle.lta_spec.proofs.TickLaws.{Sampled, byte-sampled, inPhase-bound, quadrature-bound, entry-is}
 
 -- sums of rows
@@ -277,17 +277,15 @@ row-ok n xs ys s limit h =
       l .lags,
     )
 
+-- a row that passes its test
+pub ticks-within : (limit : ℕ) (row : List ℕ) → rowOk limit row ≡ true → ticksOf row ≤ limit
+unfolding rowOk
+ticks-within limit row ok = and-le (ticksOf row) limit _ ok .0
+
 -- every entry of a register is one that a byte gives
 pub window-ok : (n : ℕ) (l : List ℕ) → every entryOk (window n l) ≡ true
-window-ok n l = front (depth n) (map entryWord l ++ zeros (depth n)) (whole l (depth n))
+window-ok n l = every-take entryOk (map entryWord l ++ zeros (depth n)) (depth n) (whole l (depth n))
   where
-    front : (m : ℕ) (l : List ℕ) → every entryOk l ≡ true → every entryOk (take m l) ≡ true
-    front zero l h = refl
-    front (suc m) [] h = refl
-    front (suc m) (x ∷ l) h =
-        let u = and-both (entryOk x) (every entryOk l) h in
-        both (u .0) (front m l (u .1))
-
     whole : (l : List ℕ) (m : ℕ) → every entryOk (map entryWord l ++ zeros m) ≡ true
     whole [] zero = refl
     whole [] (suc m) = whole [] m

@@ -8,6 +8,7 @@ use lib.Dec.{eqb}
 use lib.ListN.{length}
 use lib.Seq.{append-snoc}
 use borrow.Author.Tests.{eqb-false}
+use Rattle.lta_spec.specs.Words.{overAll}
 use Rattle.lta_spec.specs.Tick.{fromByte}
 use Rattle.lta_spec.specs.Shape.{binLimit}
 use Rattle.lta_spec.specs.Place.{Label, Cell}
@@ -19,7 +20,7 @@ use Rattle.lta_spec.specs.Numbers.{Emitted}
 use Rattle.lta_spec.specs.MachineRun as R
 use Rattle.lta_spec.specs.Engine as E
 use Rattle.lta_spec.specs.Engine.{Row}
-use Rattle.lta_spec.specs.Demand.{places, overAll, ticksBelow}
+use Rattle.lta_spec.specs.Demand.{places, ticksBelow}
 use Rattle.lta_spec.specs.declared.Shape.{Shape}
 use Rattle.lta_spec.proofs.ShapeLaws.{index-below}
 use Rattle.lta_spec.proofs.LayoutLaws.{All}

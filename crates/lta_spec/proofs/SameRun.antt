@@ -1,21 +1,22 @@
 -- The engine's run and the machine's, call by call: the same verdict, the same answer, and the relation kept.
 use Prim.Native.Nat.{ℕ, zero, suc, _+_, _*_, _-_, _≤_, _<_}
-use mathlib.Core.Path.{_≡_, refl, ap, _∙_}
+use mathlib.Core.Path.{_≡_, refl, ap, ap₂, _∙_}
 use mathlib.Core.Bool.{Bool, true, false, cond, not, _&&_, _||_}
-use mathlib.Core.List.{List, [], _∷_, _++_}
+use mathlib.Core.List.{List, [], _∷_, _++_, map}
 use native.Mathlib.Nat.{not-suc-le-zero, le-of-suc-le-suc}
 use native.Mathlib.Omega.{arith}
 use lib.Dec.{ltb, leb, eqb}
 use lib.ListN.{length, getD, set, drop, length-set}
 use borrow.Author.Tests.{ltb-true, leb-true, eqb-false, le-leb, not-true}
-use Rattle.lta_spec.specs.Words.{splice}
+use Rattle.lta_spec.specs.Words.{splice, joined, every}
 use Rattle.lta_spec.specs.Refusals.{firstOf}
 use Rattle.lta_spec.specs.Shape.{runLimit}
 use Rattle.lta_spec.specs.Place.{lossCount}
 use Rattle.lta_spec.specs.Call.{Call, last, idle, discard, commandOk, phaseOk, bankOk, binIndex}
-use Rattle.lta_spec.specs.Call.Call.{tick, dump, integrate, emit, reading, forecast}
+use Rattle.lta_spec.specs.Call.Call.{tick, dump, integrate, emit, reading, forecast, page}
 use Rattle.lta_spec.specs.Answer.Answer.{number, entry}
-use Rattle.lta_spec.specs.Row.{rowSums}
+use Rattle.lta_spec.specs.Row.{rowSums, rowCounts}
+use Rattle.lta_spec.specs.Page.{countsSum, pageOf}
 use Rattle.lta_spec.specs.Machine as M
 use Rattle.lta_spec.specs.Numbers.{Emitted, setFrame}
 use Rattle.lta_spec.specs.MachineRun as R
@@ -32,10 +33,11 @@ use Rattle.lta_spec.proofs.RowLaws.{numbers, numbers-size, window}
 use Rattle.lta_spec.proofs.SetLaws.{stored-edge, stored-centre, sums-read, lags-read}
 use Rattle.lta_spec.proofs.Carry.{row, mapStamped, mapBin, mapCell, room-carry, forecast-carry}
 use Rattle.lta_spec.proofs.Carry.{bin-carry, loss-carry}
+use Rattle.lta_spec.proofs.LedgerLaws.{counts-carry, ledger-total}
 use Rattle.lta_spec.proofs.BlockLaws.{CounterSound, counted-sound, counter-ok, phase-below}
 use Rattle.lta_spec.proofs.Sound.{LabelSound}
 use Rattle.lta_spec.proofs.Intact.{tick-intact, dump-intact, integrate-intact, emit-intact, read-intact}
-use Rattle.lta_spec.proofs.Intact.{forecast-intact}
+use Rattle.lta_spec.proofs.Intact.{forecast-intact, page-intact}
 use Rattle.lta_spec.proofs.SameCell.{Same, few, tick-same}
 use Rattle.lta_spec.proofs.SameCell.{counter-same, dump-same, dump-answer}
 use Rattle.lta_spec.proofs.SameCell.{integrate-same, integrate-answer, empty-same}
@@ -182,23 +184,30 @@ module _ (sh : Shape) (wide : 2 ≤ sh .lags) (t : ℕ) (es : List E.Unit) (ms :
     loss-is i =
         ap (λ z. E.lossAt (sh .lags) i (z .losses)) cell-is ∙ loss-carry (sh .lags) (u .xs) (u .ys) i (u .cell)
 
-units-sound : (sh : Shape) (t : ℕ) → t < runLimit → (es : List E.Unit) (ms : List R.Unit)
-    → AllSame sh t es ms → S.unitsSound sh t es ≡ true
-unfolding S.unitsSound
-units-sound sh t l [] [] a = refl
-units-sound sh t l [] (m ∷ ms) a = absurd a
-units-sound sh t l (e ∷ es) [] a = absurd a
-units-sound sh t l (e ∷ es) (m ∷ ms) a =
-    let s = a .0 in
+-- a test that each cell passes, every cell passes
+every-same : (sh : Shape) (t : ℕ) (f : E.Unit → Bool) → ((e : E.Unit) (m : R.Unit) → Same sh t e m → f e ≡ true)
+    → (es : List E.Unit) (ms : List R.Unit) → AllSame sh t es ms → every f es ≡ true
+every-same sh t f one [] [] a = refl
+every-same sh t f one [] (m ∷ ms) a = absurd a
+every-same sh t f one (e ∷ es) [] a = absurd a
+every-same sh t f one (e ∷ es) (m ∷ ms) a = both (one e m (a .0)) (every-same sh t f one es ms (a .1))
+
+unit-sound : (sh : Shape) (t : ℕ) → t < runLimit → (e : E.Unit) (m : R.Unit) → Same sh t e m
+    → D.tickSound (sh .lags) t e ≡ true
+unit-sound sh t l e m s =
     let n = sh .lags in
     let c = mapCell (row n (m .xs) (m .ys)) (m .cell) in
     let q : e ≡ record { cell = c; counter = e .counter; xs = window n (m .xs); ys = window n (m .ys) } =
     λ i. record { cell = s .cell [] [] i; counter = e .counter; xs = s .xs i; ys = s .ys i } in
-    both
-    (ap (D.tickSound (sh .lags) t) q
-    ∙ tick-intact (sh .lags) (sh .bins) t (m .xs) (m .ys) (m .cell) (s .good .sound) (few _ t m (s .good)) (omega arith)
-    (e .counter) (m .xs) (m .ys) l)
-    (units-sound sh t l es ms (a .1))
+    ap (D.tickSound n t) q
+    ∙ tick-intact n (sh .bins) t (m .xs) (m .ys) (m .cell) (s .good .sound) (few _ t m (s .good)) (omega arith)
+    (e .counter) (m .xs) (m .ys) l
+
+ledger-sound : (sh : Shape) (t : ℕ) → t ≤ runLimit → (e : E.Unit) (m : R.Unit) → Same sh t e m
+    → D.pageSound (e .cell) ≡ true
+ledger-sound sh t l e m s =
+    ap D.pageSound (s .cell [] [])
+    ∙ page-intact (sh .lags) (sh .bins) t (m .xs) (m .ys) (m .cell) (s .good .sound) (few _ t m (s .good)) l
 
 module _ (sh : Shape) (wide : 2 ≤ sh .lags) (t : ℕ) (es : List E.Unit) (ms : List R.Unit) (limit : t ≤ runLimit)
     (cells : length ms ≡ sh .cells) (units : AllSame sh t es ms) where
@@ -212,7 +221,7 @@ module _ (sh : Shape) (wide : 2 ≤ sh .lags) (t : ℕ) (es : List E.Unit) (ms :
       same-test (not (eqb t runLimit)) _ _ _
       (λ h.
       passing _ _ _
-      (both (le-leb t runLimit limit) (units-sound sh t (tick-verdict sh t limit h) es ms units))))
+      (both (le-leb t runLimit limit) (every-same sh t _ (unit-sound sh t (tick-verdict sh t limit h)) es ms units))))
   verdict-same (dump c command bank phase) =
       same-test (ltb c (sh .cells)) _ _ _
       (λ h.
@@ -245,6 +254,7 @@ module _ (sh : Shape) (wide : 2 ≤ sh .lags) (t : ℕ) (es : List E.Unit) (ms :
   verdict-same (forecast c) =
       same-test (ltb c (sh .cells)) _ _ _
       (λ h. passing _ _ _ (forecast-passes sh wide t es ms limit cells units c h))
+  verdict-same (page out) = passing _ _ _ (both (le-leb t runLimit limit) (every-same sh t _ (ledger-sound sh t limit) es ms units))
 
 -- a label that a dump gives to Held
 command-kept : (c : ℕ) → commandOk c ≡ true → eqb c idle ≡ false → eqb c discard ≡ false → c ≤ last
@@ -304,6 +314,24 @@ set-frame sh c xs ys e =
     let n = sh .lags in
     let s = e .content .members in
     rw (lags-read n xs ys s, numbers-size n xs ys s, stored-edge n xs ys s, stored-centre n xs ys s)
+
+-- the page: the numbers of the sets are those of their rows, and the sums of the lines are those over the ledger
+pub ledger-same : (sh : Shape) (t : ℕ) (es : List E.Unit) (ms : List R.Unit) → AllSame sh t es ms
+    → map S.lossCounts es ≡ map (R.lossCounts (sh .lags)) ms
+unfolding mapCell
+ledger-same sh t [] [] a = refl
+ledger-same sh t [] (m ∷ ms) a = absurd a
+ledger-same sh t (e ∷ es) [] a = absurd a
+ledger-same sh t (e ∷ es) (m ∷ ms) a =
+    ap₂ _∷_
+    (ap (λ c. map rowCounts (c .losses)) (a .0 .cell [] []) ∙ counts-carry (sh .lags) (m .xs) (m .ys) (m .cell .losses))
+    (ledger-same sh t es ms (a .1))
+
+page-same : (sh : Shape) (t : ℕ) (es : List E.Unit) (ms : List R.Unit) → AllSame sh t es ms
+    → S.lossPage (record { t = t; units = es }) ≡ R.lossPage sh (record { t = t; units = ms })
+unfolding S.lossPage R.lossPage
+page-same sh t es ms a =
+    ap (λ z. pageOf z (countsSum (joined z))) (ledger-same sh t es ms a) ∙ ap (pageOf _) (ledger-total (sh .lags) ms)
 
 -- an accepted call
 module _ (sh : Shape) (wide : 2 ≤ sh .lags) (t : ℕ) (es : List E.Unit) (ms : List R.Unit) (limit : t ≤ runLimit)
@@ -411,5 +439,11 @@ module _ (sh : Shape) (wide : 2 ≤ sh .lags) (t : ℕ) (es : List E.Unit) (ms :
           forecast-carry (sh .lags) (u .xs) (u .ys) (u .cell),
         );
         out = refl;
+        run = record { t = refl; limit = limit; cells = cells; units = units };
+      }
+  accepted-same (page out) v =
+      record {
+        answer = refl;
+        out = ap (splice out 0) (page-same sh t es ms units);
         run = record { t = refl; limit = limit; cells = cells; units = units };
       }

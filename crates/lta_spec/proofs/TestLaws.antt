@@ -2,7 +2,8 @@
 use mathlib.Core.Path.{_≡_, refl, sym, ap, _∙_}
 use mathlib.Core.Bool.{Bool, true, false, cond, _&&_, and-assoc, and-true}
 use mathlib.Core.List.{List, [], _∷_, _++_}
-use Prim.Native.Nat.{ℕ, suc, _<_, _≤_}
+use Prim.Native.Nat.{ℕ, zero, suc, _<_, _≤_}
+use native.Mathlib.Nat.{not-suc-le-zero, le-of-suc-le-suc}
 use native.Mathlib.Omega.{arith}
 use lib.Dec.{T, leb}
 use lib.ListN.{length, getD, take}
@@ -39,6 +40,19 @@ every-next {A} f xs i d h = ap (every f) (take-suc xs i d h) ∙ last (take i xs
     last : (xs : List A) (x : A) → every f (xs ++ x ∷ []) ≡ every f xs && f x
     last [] x = and-true (f x)
     last (y ∷ xs) x = ap (λ (r : Bool). f y && r) (last xs x) ∙ sym (and-assoc (f y) (every f xs) (f x))
+
+-- of those that all pass a test: each, and the first ones
+pub every-at : {A : Type 0} (f : A → Bool) (xs : List A) → every f xs ≡ true → (i : ℕ) (d : A) → i < length xs
+    → f (getD xs i d) ≡ true
+every-at f [] e i d h = absurd (not-suc-le-zero h)
+every-at f (x ∷ xs) e zero d h = (and-both (f x) (every f xs) e) .0
+every-at f (x ∷ xs) e (suc i) d h = every-at f xs ((and-both (f x) (every f xs) e) .1) i d (le-of-suc-le-suc h)
+
+pub every-take : {A : Type 0} (f : A → Bool) (xs : List A) (i : ℕ) → every f xs ≡ true → every f (take i xs) ≡ true
+every-take f xs zero e = refl
+every-take f [] (suc i) e = refl
+every-take f (x ∷ xs) (suc i) e =
+    let a = and-both (f x) (every f xs) e in rw (a .0) (every-take f xs i (a .1))
 
 -- a call that is accepted has passed its first test, and the others
 pub pass : (b : Bool) (v : Verdict) (r : Refusal) → cond b v (Refused r) ≡ Accepted → (b ≡ true) × (v ≡ Accepted)

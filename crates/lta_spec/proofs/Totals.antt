@@ -9,13 +9,15 @@ use native.Mathlib.Omega.{arith}
 use lib.Dec.{eqb}
 use lib.IntN.{ℤ, pos, negsuc, negℤ, _+ℤ_, _-ℤ_, pos-+ℤ-pos, +ℤ-idr, +ℤ-idl, negℤ-+ℤ}
 use borrow.Author.Tests.{eqb-true, eqb-false, ne-eqb}
+use Rattle.lta_spec.specs.Words.{overAll}
 use Rattle.lta_spec.specs.Machine.{Ticks}
 use Rattle.lta_spec.specs.Tick.{validAt, inPhaseAt, quadratureAt, edgeLag, centreLag}
 use Rattle.lta_spec.specs.Numbers.{upTo, sumOver, countOver, inPhaseSum, quadratureSum, validCount, setSums}
-use Rattle.lta_spec.specs.Demand.{isTick, overAll, overAllℤ, ticksBelow, AddUp}
+use Rattle.lta_spec.specs.Demand.{isTick, overAllℤ, ticksBelow, AddUp}
 use Rattle.lta_spec.specs.declared.Sums.{Sums}
 use Rattle.lta_spec.proofs.SetLaws.{regroup}
-use Rattle.lta_spec.proofs.Conserve.{tally, tally-ones, over-map}
+use Rattle.lta_spec.proofs.WordLaws.{over-map}
+use Rattle.lta_spec.proofs.Conserve.{tally, tally-ones}
 
 -- tick i is once among the ticks below t, or not at all
 pub none-below : (i t : ℕ) → t ≤ i → overAll (isTick i) (ticksBelow t) ≡ 0

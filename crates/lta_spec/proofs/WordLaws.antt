@@ -1,14 +1,15 @@
 -- Laws of parts, splices and sums of lists of words. Those of a splice have no side condition where none is needed.
 use mathlib.Core.Path.{_≡_, refl, sym, ap, _∙_}
 use mathlib.Core.Logic.{_⊎_, ⊎-elim}
-use mathlib.Core.List.{List, [], _∷_, _++_}
+use mathlib.Core.List.{List, [], _∷_, _++_, map, append-assoc}
 use Prim.Native.Nat.{ℕ, zero, suc, _+_, _-_, _<_, _≤_}
 use native.Mathlib.Nat.{zero-add, suc-add, not-suc-le-zero, le-of-suc-le-suc}
 use native.Mathlib.Omega.{arith}
 use lib.ListN.{length, getD, set, take, drop, length-take, length-drop, length-replicate}
-use lib.Seq.{drop-drop, getD-take, getD-drop, take-suc, ext-getD}
+use lib.Seq.{drop-drop, getD-take, getD-drop, take-suc, ext-getD, take-add, take-at, take-append-le, drop-append-le}
+use lib.Seq.{drop-append-add}
 use borrow.Rule.Slice.PartMut.{putMid}
-use Rattle.lta_spec.specs.Words.{part, splice, sums, zeros}
+use Rattle.lta_spec.specs.Words.{part, splice, sums, zeros, joined, overAll}
 
 -- a splice, by its words
 pub splice-nil : (l : List ℕ) (at : ℕ) → splice l at [] ≡ l
@@ -57,6 +58,13 @@ set-splice-next (x ∷ l) zero (w ∷ vs) v =
     rw zero-add (ap (λ (r : List ℕ). w ∷ r) (rw (← zero-add (length vs)) (set-splice-next l zero vs v)))
 set-splice-next (x ∷ l) (suc at) vs v = rw suc-add (ap (λ (r : List ℕ). x ∷ r) (set-splice-next l at vs v))
 
+-- a store in front of what is spliced in, as a loop going down makes it
+pub set-splice-front : (l : List ℕ) (at : ℕ) (vs : List ℕ) (v : ℕ)
+    → set (splice l (suc at) vs) at v ≡ splice l at (v ∷ vs)
+set-splice-front [] at vs v = refl
+set-splice-front (x ∷ l) zero vs v = refl
+set-splice-front (x ∷ l) (suc at) vs v = ap (λ (r : List ℕ). x ∷ r) (set-splice-front l at vs v)
+
 pub set-splice-before : (l : List ℕ) (at : ℕ) (vs : List ℕ) (k v : ℕ) → k < at
     → set (splice l at vs) k v ≡ splice (set l k v) at vs
 set-splice-before [] at vs k v h = refl
@@ -87,7 +95,6 @@ splice-eq (x ∷ l) zero (v ∷ vs) h =
     rw zero-add (ap (λ (r : List ℕ). v ∷ r) (splice-eq l zero vs (omega arith) ∙ rw zero-add))
 splice-eq (x ∷ l) (suc at) vs h = rw suc-add (ap (λ (r : List ℕ). x ∷ r) (splice-eq l at vs (omega arith)))
 
--- two splices, one behind the other
 -- all words replaced
 pub splice-whole : (l vs : List ℕ) → length vs ≡ length l → splice l 0 vs ≡ vs
 splice-whole [] [] e = refl
@@ -95,6 +102,7 @@ splice-whole [] (v ∷ vs) e = absurd (omega (arith, e))
 splice-whole (x ∷ l) [] e = absurd (omega (arith, e))
 splice-whole (x ∷ l) (v ∷ vs) e = ap (λ (r : List ℕ). v ∷ r) (splice-whole l vs (omega (arith, e)))
 
+-- two splices, one behind the other and one in front of the other
 pub splice-append : (l : List ℕ) (at : ℕ) (vs ws : List ℕ)
     → splice (splice l at vs) (at + length vs) ws ≡ splice l at (vs ++ ws)
 splice-append [] at vs ws = refl
@@ -102,6 +110,19 @@ splice-append (x ∷ l) zero [] ws = refl
 splice-append (x ∷ l) zero (v ∷ vs) ws =
     rw zero-add (ap (λ (r : List ℕ). v ∷ r) (rw zero-add at (splice-append l zero vs ws)))
 splice-append (x ∷ l) (suc at) vs ws = rw suc-add (ap (λ (r : List ℕ). x ∷ r) (splice-append l at vs ws))
+
+-- words put behind those that were put before
+pub splice-behind : (before : List ℕ) {out after : List ℕ} (at : ℕ) {next : ℕ} (v w : List ℕ)
+    → out ≡ splice before at v → next ≡ at + length v → after ≡ splice out next w → after ≡ splice before at (v ++ w)
+splice-behind before at v w e n f = f ∙ rw (e, n) (splice-append before at v w)
+
+pub splice-front : (l : List ℕ) (at : ℕ) (vs ws : List ℕ)
+    → splice (splice l (at + length vs) ws) at vs ≡ splice l at (vs ++ ws)
+splice-front [] at vs ws = refl
+splice-front (x ∷ l) zero [] ws = splice-nil (splice (x ∷ l) zero ws) zero
+splice-front (x ∷ l) zero (v ∷ vs) ws =
+    rw zero-add (ap (λ (r : List ℕ). v ∷ r) (rw zero-add at (splice-front l zero vs ws)))
+splice-front (x ∷ l) (suc at) vs ws = rw suc-add (ap (λ (r : List ℕ). x ∷ r) (splice-front l at vs ws))
 
 -- sums word by word, and zeros
 pub length-sums : (xs ys : List ℕ) → length xs ≡ length ys → length (sums xs ys) ≡ length xs
@@ -123,6 +144,42 @@ pub zeros-add : (m n : ℕ) → zeros m ++ zeros n ≡ zeros (m + n)
 zeros-add zero n = rw zero-add
 zeros-add (suc m) n = rw suc-add (ap (λ (r : List ℕ). 0 ∷ r) (zeros-add m n))
 
+-- lists one behind the other
+pub joined-append : {A : Type 0} (a b : List (List A)) → joined (a ++ b) ≡ joined a ++ joined b
+joined-append [] b = refl
+joined-append (l ∷ a) b = ap (λ r. l ++ r) (joined-append a b) ∙ sym (append-assoc l (joined a) (joined b))
+
+-- sums over a list: of two lists, through a map, one element, one element changed
+pub over-append : {A : Type 0} (f : A → ℕ) (a b : List A) → overAll f (a ++ b) ≡ overAll f a + overAll f b
+over-append f [] b = omega arith
+over-append f (x ∷ a) b = omega (arith, over-append f a b)
+
+pub over-map : {A B : Type 0} (f : B → ℕ) (g : A → B) (l : List A) → overAll f (map g l) ≡ overAll (λ a. f (g a)) l
+over-map f g [] = refl
+over-map f g (x ∷ l) = ap (λ r. f (g x) + r) (over-map f g l)
+
+pub over-at : {A : Type 0} (f : A → ℕ) (d : A) → f d ≡ 0 → (l : List A) (i : ℕ) → f (getD l i d) ≤ overAll f l
+over-at f d e [] i = omega arith
+over-at f d e (x ∷ xs) zero = omega arith
+over-at f d e (x ∷ xs) (suc i) = omega (arith, over-at f d e xs i)
+
+pub over-set : {A : Type 0} (f : A → ℕ) (d : A) (l : List A) (i : ℕ) (a : A) → i < length l
+    → overAll f (set l i a) + f (getD l i d) ≡ overAll f l + f a
+over-set f d [] i a h = absurd (not-suc-le-zero h)
+over-set f d (x ∷ xs) zero a h = omega arith
+over-set f d (x ∷ xs) (suc i) a h = omega (arith, over-set f d xs i a (le-of-suc-le-suc h))
+
+-- the first i elements, as a loop going up adds them
+pub over-next : {A : Type 0} (f : A → ℕ) (l : List A) (i : ℕ) (d : A) → i < length l
+    → overAll f (take (suc i) l) ≡ overAll f (take i l) + f (getD l i d)
+over-next f l i d h =
+    ap (overAll f) (take-suc l i d h) ∙ over-append f (take i l) (getD l i d ∷ []) ∙ omega arith
+
+pub over-take : {A : Type 0} (f : A → ℕ) (l : List A) (i : ℕ) → overAll f (take i l) ≤ overAll f l
+over-take f l zero = omega arith
+over-take f [] (suc i) = omega arith
+over-take f (x ∷ l) (suc i) = omega (arith, over-take f l i)
+
 -- a part, by its words
 module _ (l : List ℕ) (at n : ℕ) where
   pub length-part : at + n ≤ length l → length (part at n l) ≡ n
@@ -142,6 +199,24 @@ module _ (l : List ℕ) (at n : ℕ) where
 pub part-zero : (l : List ℕ) (at : ℕ) → part at 0 l ≡ []
 unfolding part
 part-zero l at = refl
+
+-- a part in two, and a part of two lists: of the second, the first, and within the first
+pub part-add : (l : List ℕ) (at m n : ℕ) → part at (m + n) l ≡ part at m l ++ part (at + m) n l
+unfolding part
+part-add l at m n = rw (take-add m n (drop at l), drop-drop m at l)
+
+pub part-behind : (x y : List ℕ) (a b n : ℕ) → length x ≡ a → part (a + b) n (x ++ y) ≡ part b n y
+unfolding part
+part-behind x y a b n e = rw (← e) (ap (take n) (drop-append-add x y b))
+
+pub part-front : (x y : List ℕ) (n : ℕ) → length x ≡ n → part 0 n (x ++ y) ≡ x
+unfolding part
+part-front x y n e = take-at x y n e
+
+pub part-inside : (x y : List ℕ) (a n : ℕ) → a + n ≤ length x → part a n (x ++ y) ≡ part a n x
+unfolding part
+part-inside x y a n h =
+    ap (take n) (drop-append-le a x y (omega arith)) ∙ take-append-le n (drop a x) y (omega (arith, length-drop a x))
 
 -- a part of a splice: the words spliced in, or words that it left alone
 pub part-splice-same : (l : List ℕ) (at : ℕ) (vs : List ℕ) → at + length vs ≤ length l
@@ -166,6 +241,11 @@ part-splice-apart l at vs b n apart h =
     ∙ ⊎-elim (λ w. getD-splice-before l at vs (b + i) (omega arith))
     (λ w. getD-splice-after l at vs (b + i) (omega arith)) apart
     ∙ sym (getD-part l b n i k′))
+
+-- the words put at the front
+pub take-splice : (l vs : List ℕ) (n : ℕ) → length vs ≡ n → n ≤ length l → take n (splice l 0 vs) ≡ vs
+unfolding part
+take-splice l vs n e h = rw (← e) (part-splice-same l 0 vs (omega arith))
 
 -- what the loan of a part, `&mut s[at..at + n]`, gives the callee, and what it leaves of the slice
 pub lent : (l : List ℕ) (at n : ℕ) → take (at + n - at) (drop at l) ≡ part at n l

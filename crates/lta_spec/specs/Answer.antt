@@ -70,7 +70,7 @@ movedAs (moved.Lost l) = number (lossNumber l)
 movedAs moved.Idle = number 7
 movedAs (moved.Refused r) = refusal r
 
--- "an emission, the frame's length"; the writer too "answers the frame's length"
+-- "an emission, the frame's length"; the writer too "answers the frame's length"; of a page "its length is the answer"
 abbrev pub writtenAs : Written → Answer
 writtenAs (written.Length n) = number n
 writtenAs (written.Refused r) = refusal r

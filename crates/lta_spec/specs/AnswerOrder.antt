@@ -7,12 +7,12 @@ use mathlib.Core.List.{List, [], _∷_, _++_, map}
 use lib.IntN.{pos}
 use lib.ListN.{replicate}
 use Rattle.lta_spec.specs.Shape.{runLimit}
-use Rattle.lta_spec.specs.Place.{Held, Cell}
+use Rattle.lta_spec.specs.Place.{Held, Stamped, Cell}
 use Rattle.lta_spec.specs.Bytes.{bytesOf}
 use Rattle.lta_spec.specs.Frame.{mark}
 use Rattle.lta_spec.specs.FrameCalls.{readAnswer, writeAnswer, normalAnswer}
 use Rattle.lta_spec.specs.Call.{Call, emittedFields}
-use Rattle.lta_spec.specs.Call.Call.{tick, dump, integrate, emit, reading, forecast}
+use Rattle.lta_spec.specs.Call.Call.{tick, dump, integrate, emit, reading, forecast, page}
 use Rattle.lta_spec.specs.Answer.{Answer}
 use Rattle.lta_spec.specs.Answer.Answer.{refused, number}
 use Rattle.lta_spec.specs.Engine.{Row, Counter, stamped, freshUnit}
@@ -37,15 +37,30 @@ counterWith offset code = record { offset = offset; lastCode = code }
 abbrev pub memWith : (t flag entry : ℕ) → List ℕ
 memWith = memCounted (counterWith 0 0)
 
--- the same but for Open, which has so many ticks and this stamp, at t = 7
-abbrev pub memOpened : (ticks stamp : ℕ) → List ℕ
-memOpened ticks stamp =
+-- a fresh run of the script's shape but for Open and the losses, at t = 7
+abbrev pub memPlaces : Stamped Row → (losses : List Row) → List ℕ
+memPlaces opened losses =
     let u = freshUnit (scriptShape .lags) (scriptShape .bins) in
     let c = u .cell in
-    let opened = stamped (ticks ∷ replicate 6 0) stamp in
-    let cell : Cell Row = record { opened = opened; held = c .held; bins = c .bins; losses = c .losses } in
+    let cell : Cell Row = record { opened = opened; held = c .held; bins = c .bins; losses = losses } in
     (runL scriptShape) .put
     (record { t = 7; units = record { cell = cell; counter = u .counter; xs = u .xs; ys = u .ys } ∷ [] })
+
+-- a row of so many ticks, without a valid product
+abbrev pub ticksRow : (ticks : ℕ) → Row
+ticksRow ticks = ticks ∷ replicate 6 0
+
+-- Open has so many ticks and this stamp
+abbrev pub memOpened : (ticks stamp : ℕ) → List ℕ
+memOpened ticks stamp = memPlaces (stamped (ticksRow ticks) stamp) (replicate 6 (ticksRow 0))
+
+-- the losses have so many ticks
+abbrev pub memLost : List ℕ → List ℕ
+memLost ticks = memPlaces (stamped (ticksRow 0) 0) (map ticksRow ticks)
+
+-- a buffer of so many bytes
+abbrev pub bytes : ℕ → List ℕ
+bytes n = replicate n 9
 
 -- what each call answers on the same work memory
 abbrev pub returned : (mem : List ℕ) → List Call → List Answer
@@ -102,6 +117,20 @@ pub record Orders : Type 0 where
       (1 ∷ 524287 ∷ 524288 ∷ 524289 ∷ [])
       ≡ number 524287 ∷ number 1 ∷ number 0 ∷ refused 11 ∷ []
   pub forecaster-stamp : returned (memOpened 3 8) (forecast 0 ∷ []) ≡ refusals (11 ∷ [])
+  -- request 2026-03, "refused by 10 after 1, 2 and 11": t is too high; a flag of 2 and no entry of a register, which
+  -- pages do not test
+  pub pager : returned (memWith (runLimit + 1) 0 0) (page [] ∷ page (bytes 287) ∷ []) ≡ refusals (11 ∷ 11 ∷ [])
+  pub pager-others : returned (memWith 0 2 256) (page [] ∷ page (bytes 286) ∷ page (bytes 287) ∷ page (bytes 288) ∷ [])
+      ≡ refused 10 ∷ refused 10 ∷ number 287 ∷ number 287 ∷ []
+  -- "every cell's losses": one alone; "and six that together pass 2,147,483,648 ticks", each within its own limit
+  pub pager-losses : map (λ ticks. (step scriptShape (page (bytes 287)) (memLost ticks)) .answer)
+      ((0 ∷ 0 ∷ 0 ∷ 0 ∷ 2147483648 ∷ 0 ∷ [])
+      ∷ (0 ∷ 0 ∷ 0 ∷ 0 ∷ 2147483649 ∷ 0 ∷ [])
+      ∷ (1 ∷ 20 ∷ 300 ∷ 4000 ∷ 50000 ∷ 2147429327 ∷ [])
+      ∷ (1 ∷ 20 ∷ 300 ∷ 4000 ∷ 50000 ∷ 2147429328 ∷ [])
+      ∷ (2147483648 ∷ 0 ∷ 0 ∷ 0 ∷ 0 ∷ 1 ∷ [])
+      ∷ [])
+      ≡ number 287 ∷ refused 11 ∷ number 287 ∷ refused 11 ∷ refused 11 ∷ []
   -- "1 for N, then 13 .., 14 .., 15 .., 16"; "Normalising: 12 last"
   pub sender : readAnswer 3 [] ∷ map (readAnswer 2) ([] ∷ replicate 50 0 ∷ zeroFrame 1 ∷ zeroFrame 0 ∷ [])
       ≡ refusals (1 ∷ 13 ∷ 14 ∷ 15 ∷ 16 ∷ [])

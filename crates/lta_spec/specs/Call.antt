@@ -15,8 +15,9 @@ pub data Call : Type 0 where
   emit : (cell bank bin : ℕ) (out : List ℕ) → Call
   reading : (cell lag loss : ℕ) → Call
   forecast : (cell : ℕ) → Call
+  page : (out : List ℕ) → Call
 
--- the frame buffer that a call is lent
+-- the buffer that a call is lent
 abbrev pub lentTo : Call → List ℕ
 lentTo (tick samples) = []
 lentTo (dump cell command bank phase) = []
@@ -24,6 +25,7 @@ lentTo (integrate cell) = []
 lentTo (emit cell bank bin out) = out
 lentTo (reading cell lag loss) = []
 lentTo (forecast cell) = []
+lentTo (page out) = out
 
 -- dump commands, three binary digits: 000, 001, 010, 100, 111
 abbrev pub save : ℕ

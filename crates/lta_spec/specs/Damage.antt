@@ -3,7 +3,7 @@ use Prim.Native.Nat.{ℕ, suc, _+_}
 use mathlib.Core.Bool.{Bool, true, false, cond, _&&_, _||_}
 use mathlib.Core.List.{List}
 use lib.Dec.{leb, ltb, eqb}
-use Rattle.lta_spec.specs.Words.{every}
+use Rattle.lta_spec.specs.Words.{overAll, every}
 use Rattle.lta_spec.specs.Shape.{openLimit, binLimit, runLimit}
 use Rattle.lta_spec.specs.Place.{Label, Stamped, Held, Bin, Cell, ready}
 use Rattle.lta_spec.specs.Place.{ordered, overrun, full, replaced, tooWide, holdoff}
@@ -101,6 +101,13 @@ emitSound n t k c = binOk t (binAt n k c)
 -- "reading, the losses"
 abbrev pub readSound : Cell Row → Bool
 readSound c = lossesOk (c .losses)
+
+-- request 2026-03: 11 "here covers every cell's losses and six that together pass 2,147,483,648 ticks"
+unfoldable pub pageSound : Cell Row → Bool
+pageSound c = lossesOk (c .losses) && leb (overAll ticksOf (c .losses)) runLimit
+
+abbrev pub ledgersSound : List Unit → Bool
+ledgersSound us = every (λ u. pageSound (u .cell)) us
 
 -- "forecast, Open"
 abbrev pub forecastSound : (t : ℕ) → Cell Row → Bool

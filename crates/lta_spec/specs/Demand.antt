@@ -7,6 +7,7 @@ use mathlib.Core.List.{List, [], _∷_, _++_, map, List·Memᴰ}
 use lib.Dec.{eqb}
 use lib.IntN.{ℤ, pos, _+ℤ_}
 use lib.ListN.{length, getD, take}
+use Rattle.lta_spec.specs.Words.{overAll}
 use Rattle.lta_spec.specs.Refusals.{firstOf}
 use Rattle.lta_spec.specs.Size.{memoryWords, hostTests}
 use Rattle.lta_spec.specs.Tick.{edgeLag, centreLag}
@@ -15,7 +16,7 @@ use Rattle.lta_spec.specs.Frame.{accumulated, frameLength, bodyOf, field
 use Rattle.lta_spec.specs.FrameCalls.{readAnswer}
 use Rattle.lta_spec.specs.Call.{Call}
 use Rattle.lta_spec.specs.Answer.{Answer, numberIn}
-use Rattle.lta_spec.specs.Call.Call.{tick, dump, integrate, emit, reading, forecast}
+use Rattle.lta_spec.specs.Call.Call.{tick, dump, integrate, emit, reading, forecast, page}
 use Rattle.lta_spec.specs.Answer.Answer.{refused, fields}
 use Rattle.lta_spec.specs.Machine.{Ticks, LastCommand, binAt}
 use Rattle.lta_spec.specs.Machine.LastCommand.{none, was}
@@ -61,7 +62,7 @@ abbrev pub AllStand : List Listed → Type 0
 AllStand [] = Prim.Unit {0}
 AllStand (c ∷ cs) = Stands c × AllStand cs
 
--- what a call tells: its answer, and the frame buffer as it left it
+-- what a call tells: its answer, and the lent buffer as it left it
 pub record Returned : Type 0 where
   pub answer : Answer
   pub out : List ℕ
@@ -152,11 +153,6 @@ places u =
     ∷ c .held .content .members
     ∷ map (λ b. b .content .members) (c .bins) ++ (c .losses ++ map (λ e. e .content .members) (u .frames))
 
--- a sum over a list
-abbrev pub overAll : {A : Type 0} → (A → ℕ) → List A → ℕ
-overAll f [] = 0
-overAll f (x ∷ xs) = f x + overAll f xs
-
 -- how often tick i is in a set
 abbrev pub isTick : (i j : ℕ) → ℕ
 isTick i j = cond (eqb i j) 1 0
@@ -185,6 +181,7 @@ frameReturned n c (onRun (dump d command bank phase)) t = []
 frameReturned n c (onRun (integrate d)) t = []
 frameReturned n c (onRun (reading d lag loss)) t = []
 frameReturned n c (onRun (forecast d)) t = []
+frameReturned n c (onRun (page out)) t = []
 frameReturned n c (onOther shape call given) t = []
 
 abbrev pub framesReturned : (n c : ℕ) → List Listed → List Returned → List (List ℕ)
@@ -249,7 +246,7 @@ pub record AddUp (parts : List Sums) (whole : Sums) : Type 0 where
 
 -- Demand 3, of one list of calls
 pub record Demand3 (sh : Shape) (cs : List Listed) : Type 0 where
-  -- call by call the machine's answers, and the frame buffers as they were left
+  -- call by call the machine's answers, and the lent buffers as they were left: frames and pages
   pub tells : engineReturns sh cs (freshMem sh) ≡ machineReturns sh cs (M.start sh)
   -- "11 never arises"
   pub clean : (t : Returned) → List·Memᴰ t (engineReturns sh cs (freshMem sh)) → t .answer ≡ refused 11 → ⊥

@@ -6,17 +6,18 @@ use mathlib.Core.Bool.{true, cond, not, _&&_}
 use mathlib.Core.List.{List, [], _∷_, _++_, map}
 use lib.Dec.{ltb, eqb}
 use lib.ListN.{length, getD, take, drop}
+use Rattle.lta_spec.specs.Words.{overAll}
 use Rattle.lta_spec.specs.Shape.{shapeOk, runLimit}
 use Rattle.lta_spec.specs.Place.{holdoff}
 use Rattle.lta_spec.specs.Call.{idle}
-use Rattle.lta_spec.specs.Call.Call.{tick, dump, integrate, emit, reading, forecast}
+use Rattle.lta_spec.specs.Call.Call.{tick, dump, integrate, emit, reading, forecast, page}
 use Rattle.lta_spec.specs.Answer.{numberIn}
 use Rattle.lta_spec.specs.Answer.Answer.{number}
 use Rattle.lta_spec.specs.Machine.{Ticks}
 use Rattle.lta_spec.specs.MachineRun as M
 use Rattle.lta_spec.specs.Step as S
 use Rattle.lta_spec.specs.Demand.{Listed, AllStand, Returned, engineReturns, memAfter, machineAfter}
-use Rattle.lta_spec.specs.Demand.{overAll, timesIn}
+use Rattle.lta_spec.specs.Demand.{timesIn}
 use Rattle.lta_spec.specs.Demand.Listed.{onRun, onOther}
 use Rattle.lta_spec.specs.declared.Shape.{Shape}
 
@@ -34,6 +35,7 @@ ofTick none f (onRun (integrate d)) = none
 ofTick none f (onRun (emit d bank bin out)) = none
 ofTick none f (onRun (reading d lag loss)) = none
 ofTick none f (onRun (forecast d)) = none
+ofTick none f (onRun (page out)) = none
 ofTick none f (onOther shape call given) = none
 
 -- an accepted tick: the number of cells that it says are held off
@@ -53,6 +55,7 @@ dumpTold c (onRun (integrate d)) t = []
 dumpTold c (onRun (emit d bank bin out)) t = []
 dumpTold c (onRun (reading d lag loss)) t = []
 dumpTold c (onRun (forecast d)) t = []
+dumpTold c (onRun (page out)) t = []
 dumpTold c (onOther shape call given) t = []
 
 -- the ticks t, t + 1, .., so many

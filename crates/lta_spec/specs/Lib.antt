@@ -6,6 +6,8 @@ pub mod Size
 pub mod Answer
 pub mod Tick
 pub mod Place
+pub mod Decimal
+pub mod Page
 pub mod Bytes
 pub mod Frame
 pub mod FrameCalls
@@ -23,6 +25,7 @@ pub mod Step
 pub mod RoundTrip
 pub mod Demand
 pub mod Forecasts
+pub mod LossPages
 pub mod BlockRows
 pub mod WorkedRun
 pub mod Edges

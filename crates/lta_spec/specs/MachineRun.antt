@@ -2,23 +2,25 @@
 -- of each call, of work memory the length alone.
 use Prim.Native.Nat.{ℕ, suc, _+_, _*_, _-_}
 use mathlib.Core.Bool.{cond, not, _&&_}
-use mathlib.Core.List.{List, [], _∷_, _++_}
+use mathlib.Core.List.{List, [], _∷_, _++_, map}
 use lib.Dec.{leb, ltb, eqb}
 use lib.ListN.{length, getD, set, drop, replicate}
-use Rattle.lta_spec.specs.Words.{splice}
+use Rattle.lta_spec.specs.Words.{splice, joined}
 use Rattle.lta_spec.specs.Refusals.{Test, test, firstOf, decided}
 use Rattle.lta_spec.specs.Shape.{runLimit}
 use Rattle.lta_spec.specs.Size.{hostTests}
 use Rattle.lta_spec.specs.Place.{Cell, ready, lossCount}
+use Rattle.lta_spec.specs.Page.{countsSum, pageOf, pageLength}
 use Rattle.lta_spec.specs.Frame.{accumulated, frameLength}
 use Rattle.lta_spec.specs.Call.{Call, lentTo, commandOk, phaseOk, bankOk, binIndex}
-use Rattle.lta_spec.specs.Call.Call.{tick, dump, integrate, emit, reading, forecast}
+use Rattle.lta_spec.specs.Call.Call.{tick, dump, integrate, emit, reading, forecast, page}
 use Rattle.lta_spec.specs.Answer.{Answer, refusal}
 use Rattle.lta_spec.specs.Answer.Answer.{number, entry}
 use Rattle.lta_spec.specs.Machine.{Ticks, hasRoom, tickCell, dumpCell, integrateCell, binAt, emptyBin, freshCell}
 use Rattle.lta_spec.specs.Machine.{forecastOf, Counter, counted, dumpLabel, freshCounter}
-use Rattle.lta_spec.specs.Numbers.{Emitted, setSums, setFrame}
+use Rattle.lta_spec.specs.Numbers.{Emitted, setSums, setCounts, setFrame}
 use Rattle.lta_spec.specs.declared.Shape.{Shape}
+use Rattle.lta_spec.specs.declared.Counts.{Counts}
 use Rattle.lta_spec.specs.declared.Refusal.the-variants.{WrongSamples, RunFull, NoCell, BadCommand, NoBin}
 use Rattle.lta_spec.specs.declared.Refusal.the-variants.{NothingHeld, NotReady, ShortBuffer, NoLag}
 use Rattle.lta_spec.specs.declared.Verdict.{Verdict}
@@ -75,11 +77,12 @@ module _ (sh : Shape) (r : Run) where
       ∷ test (ltb lag (sh .lags) && (leb 1 loss && leb loss lossCount)) NoLag
       ∷ []
   callTests (forecast cell) = test (ltb cell (sh .cells)) NoCell ∷ []
+  callTests (page out) = test (leb (pageLength (sh .cells)) (length out)) ShortBuffer ∷ []
 
   unfoldable pub verdict : (words : ℕ) → Call → Verdict
   verdict words call = firstOf (hostTests sh words ++ callTests call)
 
--- what a call leaves: its answer, the lent frame buffer, and the run
+-- what a call leaves: its answer, the lent buffer, and the run
 pub record Step : Type 0 where
   pub answer : Answer
   pub out : List ℕ
@@ -142,6 +145,17 @@ withFrame sh c bank bin r =
           });
     }
 
+-- the numbers of the losses of a cell, and of all ticks in them
+abbrev pub lossCounts : (n : ℕ) → Unit → List Counts
+lossCounts n u = map (setCounts n (u .xs) (u .ys)) (u .cell .losses)
+
+abbrev pub lostCounts : (n : ℕ) → Unit → Counts
+lostCounts n u = setCounts n (u .xs) (u .ys) (joined (u .cell .losses))
+
+-- the loss page: the numbers of each loss, and as totals "the sums over the ledger of the run"
+unfoldable pub lossPage : Shape → Run → List ℕ
+lossPage sh r = pageOf (map (lossCounts (sh .lags)) (r .units)) (countsSum (map (lostCounts (sh .lags)) (r .units)))
+
 -- what an accepted call does
 unfoldable pub accepted : Shape → Call → Run → Step
 accepted sh (tick samples) r =
@@ -174,6 +188,8 @@ accepted sh (reading c lag loss) r =
     }
 accepted sh (forecast c) r =
     record { answer = number (forecastOf ((unitAt sh c r) .cell)); out = []; run = r }
+accepted sh (page out) r =
+    record { answer = number (pageLength (sh .cells)); out = splice out 0 (lossPage sh r); run = r }
 
 -- a call with its own shape and length of work memory. "Reading, and every refused call: nothing changes."
 unfoldable pub step : Shape → (words : ℕ) → Call → Run → Step

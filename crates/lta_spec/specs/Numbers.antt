@@ -12,6 +12,7 @@ use Rattle.lta_spec.specs.Call.{emittedFields}
 use Rattle.lta_spec.specs.Machine.{Ticks}
 use Rattle.lta_spec.specs.declared.Shape.{Shape}
 use Rattle.lta_spec.specs.declared.Sums.{Sums}
+use Rattle.lta_spec.specs.declared.Counts.{Counts}
 
 -- "A set's numbers are its I and Q sums at each lag, its ticks, and its edge and centre counts, of ticks whose
 -- product at that lag is valid". The entries as they were just after tick i
@@ -51,6 +52,11 @@ module _ (n : ℕ) (xs ys : List ℕ) (s : Ticks) where
         edge = validCount edgeLag;
         centre = validCount (centreLag n);
       }
+
+  -- what a page shows of a set
+  unfoldable pub setCounts : Counts
+  setCounts =
+      record { ticks = length s; edge = validCount edgeLag; centre = validCount (centreLag n) }
 
 -- an emitted frame: the bin that it came from, its set and stamp
 pub record Emitted : Type 0 where

@@ -12,6 +12,7 @@ use Rattle.lta_spec.specs.Shape.{peak}
 use Rattle.lta_spec.specs.Size.{rowWords}
 use Rattle.lta_spec.specs.Tick.{Entry, nibble, validAt, inPhaseAt, quadratureAt, edgeLag, centreLag}
 use Rattle.lta_spec.specs.declared.Sums.{Sums}
+use Rattle.lta_spec.specs.declared.Counts.{Counts}
 
 abbrev pub ticksOf : List ℕ → ℕ
 ticksOf row = getD row 0 0
@@ -59,6 +60,10 @@ rowSums k row =
       edge = edgeOf row;
       centre = centreOf row;
     }
+
+-- what a page shows of a row
+abbrev pub rowCounts : List ℕ → Counts
+rowCounts row = record { ticks = ticksOf row; edge = edgeOf row; centre = centreOf row }
 
 -- 11: "a sum passes 98 × ticks in size", which is a stored sum above 196 × ticks
 abbrev pub sumOk : (ticks stored : ℕ) → Bool

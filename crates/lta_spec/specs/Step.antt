@@ -1,15 +1,16 @@
 -- What a call makes of work memory: the refusals in their order, then what is done. What the contracts of the calls
 -- cite.
 use Prim.Native.Nat.{ℕ, suc, _+_, _*_, _-_}
-use mathlib.Core.Bool.{Bool, true, cond, not, _&&_}
-use mathlib.Core.List.{List, [], _∷_, _++_}
+use mathlib.Core.Bool.{Bool, cond, not, _&&_}
+use mathlib.Core.List.{List, [], _∷_, _++_, map}
 use lib.Dec.{leb, ltb, eqb}
 use lib.ListN.{length, getD, set, drop}
-use Rattle.lta_spec.specs.Words.{splice}
+use Rattle.lta_spec.specs.Words.{splice, joined, every}
 use Rattle.lta_spec.specs.Refusals.{Test, test, firstOf, decided}
 use Rattle.lta_spec.specs.Shape.{shapeOk, runLimit}
 use Rattle.lta_spec.specs.Size.{memoryWords, hostTests}
 use Rattle.lta_spec.specs.Place.{Stamped, Cell, ready, lossCount}
+use Rattle.lta_spec.specs.Page.{countsSum, pageOf, pageLength}
 use Rattle.lta_spec.specs.Frame.{accumulated, frameLength, frameOf, lagWords, header}
 use Rattle.lta_spec.specs.Call.{
   Call,
@@ -20,10 +21,10 @@ use Rattle.lta_spec.specs.Call.{
   binIndex,
   emittedFields,
 }
-use Rattle.lta_spec.specs.Call.Call.{tick, dump, integrate, emit, reading, forecast}
+use Rattle.lta_spec.specs.Call.Call.{tick, dump, integrate, emit, reading, forecast, page}
 use Rattle.lta_spec.specs.Answer.{Answer, refusal}
 use Rattle.lta_spec.specs.Answer.Answer.{number, entry}
-use Rattle.lta_spec.specs.Row.{ticksOf, edgeOf, centreOf, rowLags, rowSums}
+use Rattle.lta_spec.specs.Row.{ticksOf, edgeOf, centreOf, rowLags, rowSums, rowCounts}
 use Rattle.lta_spec.specs.Engine.{
   Row,
   Counter,
@@ -41,8 +42,10 @@ use Rattle.lta_spec.specs.Engine.{
   freshUnit,
 }
 use Rattle.lta_spec.specs.Damage.{tickSound, dumpUnitSound, integrateSound, emitSound, readSound, forecastSound}
+use Rattle.lta_spec.specs.Damage.{ledgersSound}
 use Rattle.lta_spec.specs.Memory.{Run, runL, start}
 use Rattle.lta_spec.specs.declared.Shape.{Shape}
+use Rattle.lta_spec.specs.declared.Counts.{Counts}
 use Rattle.lta_spec.specs.declared.Refusal.the-variants.{
   BadShape,
   WrongSamples,
@@ -69,11 +72,21 @@ setupAnswer sh mem = decided (firstOf (hostTests sh (length mem))) refusal (numb
 abbrev pub setupLeaves : Shape → (mem : List ℕ) → List ℕ
 setupLeaves sh mem = decided (firstOf (hostTests sh (length mem))) (λ r. mem) ((runL sh) .put (start sh))
 
--- what an accepted call answers, and leaves of the frame buffer and of the run
+-- what an accepted call answers, and leaves of the lent buffer and of the run
 pub record Done : Type 0 where
   pub answer : Answer
   pub out : List ℕ
   pub run : Run
+
+-- the numbers of the losses of a cell, and of every cell's; their page, as totals "the sums of the lines"
+abbrev pub lossCounts : Unit → List Counts
+lossCounts u = map rowCounts (u .cell .losses)
+
+abbrev pub ledgerCounts : Run → List (List Counts)
+ledgerCounts r = map lossCounts (r .units)
+
+unfoldable pub lossPage : Run → List ℕ
+lossPage r = pageOf (ledgerCounts r) (countsSum (joined (ledgerCounts r)))
 
 module _ (sh : Shape) where
   abbrev pub unitAt : (c : ℕ) → Run → Unit
@@ -86,9 +99,8 @@ module _ (sh : Shape) where
   abbrev pub soundAt : (sound : Bool) → Run → Test
   soundAt sound r = test (leb (r .t) runLimit && sound) Damaged
 
-  unfoldable pub unitsSound : (t : ℕ) → List Unit → Bool
-  unitsSound t [] = true
-  unitsSound t (u ∷ us) = tickSound (sh .lags) t u && unitsSound t us
+  abbrev pub unitsSound : (t : ℕ) → List Unit → Bool
+  unitsSound t us = every (tickSound (sh .lags) t) us
 
   -- each call's refusals behind 1 and 2, in document 01's order
   abbrev pub callTests : Call → Run → List Test
@@ -122,6 +134,10 @@ module _ (sh : Shape) where
       ∷ soundAt (readSound (cellAt c r)) r
       ∷ []
   callTests (forecast c) r = test (ltb c (sh .cells)) NoCell ∷ soundAt (forecastSound (r .t) (cellAt c r)) r ∷ []
+  callTests (page out) r =
+      soundAt (ledgersSound (r .units)) r
+      ∷ test (leb (pageLength (sh .cells)) (length out)) ShortBuffer
+      ∷ []
 
   unfoldable pub tickUnits : (samples : List ℕ) → List Unit → List Unit
   tickUnits samples [] = []
@@ -175,11 +191,13 @@ module _ (sh : Shape) where
   accepted (reading c lag loss) r =
       record { answer = entry (rowSums lag (lossAt (sh .lags) (loss - 1) ((cellAt c r) .losses))); out = []; run = r }
   accepted (forecast c) r = record { answer = number (forecastOf (cellAt c r)); out = []; run = r }
+  accepted (page out) r =
+      record { answer = number (pageLength (sh .cells)); out = splice out 0 (lossPage r); run = r }
 
   unfoldable pub verdict : (mem : List ℕ) → Call → Verdict
   verdict mem call = firstOf (hostTests sh (length mem) ++ callTests call ((runL sh) .get mem))
 
--- what a call leaves: its answer, the lent frame buffer, and work memory
+-- what a call leaves: its answer, the lent buffer, and work memory
 pub record Step : Type 0 where
   pub answer : Answer
   pub out : List ℕ

@@ -1,7 +1,7 @@
 -- Lists of words: a part, and a list with a part replaced. Lent slices are lists, so contracts cite these.
 use Prim.Native.Nat.{ℕ, zero, suc, _+_}
 use mathlib.Core.Bool.{Bool, true, _&&_}
-use mathlib.Core.List.{List, [], _∷_}
+use mathlib.Core.List.{List, [], _∷_, _++_}
 use lib.ListN.{take, drop, replicate}
 
 -- the n words from at
@@ -23,6 +23,16 @@ sums (x ∷ xs) (y ∷ ys) = (x + y) ∷ sums xs ys
 
 abbrev pub zeros : ℕ → List ℕ
 zeros n = replicate n 0
+
+-- lists one behind the other
+abbrev pub joined : {A : Type 0} → List (List A) → List A
+joined [] = []
+joined (l ∷ ls) = l ++ joined ls
+
+-- a sum over a list
+abbrev pub overAll : {A : Type 0} → (A → ℕ) → List A → ℕ
+overAll f [] = 0
+overAll f (x ∷ xs) = f x + overAll f xs
 
 -- every test of a list holds
 abbrev pub all : List Bool → Bool

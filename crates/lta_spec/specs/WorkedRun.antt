@@ -1,14 +1,16 @@
 -- A worked run beside P1, in which little is 0: two cells of four lags, S and Z above 0, M = 3, bank 1, a data bin
--- above M, phases that turn, invalid samples, losses 1 to 4. What each call returns was computed from documents 01 and
--- 02, not from the definitions here.
+-- above M, phases that turn, invalid samples, losses 1 to 4, a loss page. What each call returns was computed from
+-- documents 01 and 02, not from the definitions here.
 use Prim.Native.Nat.{ℕ}
 use mathlib.Core.List.{List, [], _∷_, _++_, map}
 use lib.IntN.{ℤ, pos, negℤ}
 use lib.ListN.{replicate}
+use Rattle.lta_spec.specs.Words.{joined}
+use Rattle.lta_spec.specs.Decimal.{ascii}
 use Rattle.lta_spec.specs.Bytes.{bytesOf}
 use Rattle.lta_spec.specs.Frame.{mark}
 use Rattle.lta_spec.specs.Call.{Call}
-use Rattle.lta_spec.specs.Call.Call.{tick, dump, integrate, emit, reading, forecast}
+use Rattle.lta_spec.specs.Call.Call.{tick, dump, integrate, emit, reading, forecast, page}
 use Rattle.lta_spec.specs.Answer.{Answer}
 use Rattle.lta_spec.specs.Answer.Answer.{refused, number, entry}
 use Rattle.lta_spec.specs.Demand.{Listed, Returned}
@@ -19,7 +21,7 @@ use Rattle.lta_spec.specs.declared.Shape.{Shape}
 abbrev pub workedShape : Shape
 workedShape = record { cells = 2; lags = 4; bins = 6; blocks = 3; start = 20; rate = 3; second = 1000 }
 
--- a call of the run, its answer, and the frame buffer as it leaves it
+-- a call of the run, its answer, and the lent buffer as it leaves it
 pub record CallLine : Type 0 where
   pub call : Call
   pub returned : Returned
@@ -71,6 +73,27 @@ workedFrame =
     -- "sum of all words before it, wrapping at 32 bits"
     ∷ 0x8004_20D5
     ∷ [])
+
+-- the page at the end: of cell 0 ticks 0 to 2 in loss 1 and 5 to 7 in loss 2, of cell 1 tick 8 in loss 3 and 0 to 4 in
+-- loss 4
+abbrev pub workedPage : List ℕ
+workedPage =
+    joined
+    (map ascii
+    (" 0 1           3           1           2\n"
+    ∷ " 0 2           3           2           1\n"
+    ∷ " 0 3           0           0           0\n"
+    ∷ " 0 4           0           0           0\n"
+    ∷ " 0 5           0           0           0\n"
+    ∷ " 0 6           0           0           0\n"
+    ∷ " 1 1           0           0           0\n"
+    ∷ " 1 2           0           0           0\n"
+    ∷ " 1 3           1           1           1\n"
+    ∷ " 1 4           5           3           2\n"
+    ∷ " 1 5           0           0           0\n"
+    ∷ " 1 6           0           0           0\n"
+    ∷ "** *          12           7           6\n"
+    ∷ []))
 
 -- a frame buffer with one byte more than a frame
 abbrev pub lent : List ℕ
@@ -128,4 +151,10 @@ workedRun =
     -- data bin 4 of bank 0 is Free
     ∷ record { call = emit 1 0 4 lent; returned = record { answer = refused 9; out = lent } }
     ∷ record { call = emit 1 1 4 lent; returned = record { answer = number 66; out = workedFrame ++ 9 ∷ [] } }
+    -- 41 × (6 × 2 + 1) bytes: one byte short, and two more than the page
+    ∷ record { call = page (replicate 532 9); returned = record { answer = refused 10; out = replicate 532 9 } }
+    ∷ record {
+      call = page (replicate 535 9);
+      returned = record { answer = number 533; out = workedPage ++ 9 ∷ 9 ∷ [] };
+    }
     ∷ []

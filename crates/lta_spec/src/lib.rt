@@ -81,7 +81,7 @@ pub enum Moved {
     Refused(Refusal),
 }
 
-// An emission, or a frame written from its fields: the frame's length in bytes.
+// An emission, a frame written from its fields, or a loss page: the length in bytes of what is written.
 pub enum Written {
     Length(u64),
     Refused(Refusal),
@@ -100,6 +100,13 @@ pub struct Sums {
 pub enum Ledger {
     Entry(Sums),
     Refused(Refusal),
+}
+
+// The numbers of one line of a loss page.
+pub struct Counts {
+    pub ticks: u64,
+    pub edge: u64,
+    pub centre: u64,
 }
 
 // A forecast: ticks that a cell may still take.

@@ -1,12 +1,18 @@
--- The bytes of document 01's example are the calls of edge P1.
+-- The bytes of document 01's example are the calls of edge P1, and print document 01's lines.
 use Prim.Native.Nat.{ℕ}
 use Prim.Native.Char.{code}
-use mathlib.Core.Path.{_≡_, refl}
+use mathlib.Core.Path.{_≡_, refl, ap, _∙_}
 use mathlib.Core.List.{List, [], _∷_, _++_}
-use Rattle.lta_spec.specs.Edges.{script}
+use Rattle.lta_spec.specs.Words.{part}
+use Rattle.lta_spec.specs.Decimal.{ascii, decimalWithin, decimal}
+use Rattle.lta_spec.specs.Demand.{freshMem}
+use Rattle.lta_spec.specs.Edges.{scriptShape, script, scriptReturned}
+use Rattle.lta_spec.proofs.Edges.{edges}
 use Rattle.script_records.specs.Records.{recordSize, markedIn}
 use Rattle.script_bytes.specs.Bytes.{sizeIn, nextIn, recordsWithin, recordsIn}
+use Rattle.script_lines.specs.Lines.{field, spaced, line, frameFields}
 use Rattle.script.specs.Run.{listed}
+use Rattle.script.specs.Text.{linesOf, scriptLines, scriptText}
 
 -- "TK 02 03, TK 01 0F, TK 08 02 (hexadecimal), DP 0 2 0 0 0, IN 0, EM 0 0 0, IN 0", the DP without its last byte
 abbrev pub example : List ℕ
@@ -26,3 +32,25 @@ example-calls = refl
 pub example-ends : (recordsIn example) .left ≡ []
 unfolding recordsIn recordsWithin nextIn sizeIn markedIn recordSize
 example-ends = refl
+
+-- what document 01 shows for it
+abbrev pub exampleText : List ℕ
+exampleText =
+    ascii "TK 0 0\n"
+    ++ ascii "TK 0 0\n"
+    ++ ascii "TK 0 0\n"
+    ++ ascii "DP 0 0\n"
+    ++ ascii "IN 0 0\n"
+    ++ ascii "EM 0 2 0 3 2 1 0 0 6 0 10 0 24\n"
+    ++ ascii "IN 8\n"
+    ++ ascii "END 0\n"
+
+-- P1 says what the calls tell
+told : scriptLines example (freshMem scriptShape) ≡ linesOf ((recordsIn example) .list) scriptReturned
+unfolding scriptLines recordsIn recordsWithin nextIn sizeIn markedIn recordSize
+told = ap (linesOf ((recordsIn example) .list)) (edges .p1-engine)
+
+pub example-text : scriptText example (freshMem scriptShape) ≡ exampleText
+unfolding scriptText recordsIn recordsWithin nextIn sizeIn markedIn recordSize line spaced field frameFields part
+    decimalWithin decimal
+example-text = ap (λ l. l ++ ascii "END 0\n") told ∙ refl

@@ -7,20 +7,12 @@ use Rattle.lta_spec.specs.Demand.{Listed, engineMem}
 use Rattle.lta_spec.specs.Demand.Listed.{onRun}
 use Rattle.lta_spec.specs.Edges.{scriptShape}
 use Rattle.script_records.specs.declared.Record.{Record}
-use Rattle.script_records.specs.declared.Next.{Next}
-use Rattle.script_records.specs.declared.Next.the-variants as next
 use Rattle.script_bytes.specs.Bytes.{recordsIn}
-use Rattle.script_calls.specs.Calls.{callOf, stepOf}
+use Rattle.script_calls.specs.Calls.{callOf}
 
 -- a buffer with room for a frame of the script's run, for each record anew
 abbrev pub blank : List ℕ
 blank = zeros (frameLength accumulated (scriptShape .lags))
-
--- work memory after what stands next: a record's call, or nothing
-abbrev pub memAfter : Next → (mem : List ℕ) → List ℕ
-memAfter (next.Record r) mem = (stepOf r blank mem) .mem
-memAfter next.End mem = mem
-memAfter next.Cut mem = mem
 
 -- records as a list of calls of demand 3
 abbrev pub listed : List Record → List Listed

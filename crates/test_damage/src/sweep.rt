@@ -12,9 +12,11 @@ use test_lib_rules::call::DUMP;
 use test_lib_rules::call::EMIT;
 use test_lib_rules::call::FORECAST;
 use test_lib_rules::call::INTEGRATE;
+use test_lib_rules::call::PAGE;
 use test_lib_rules::call::READING;
 use test_lib_rules::call::TICK;
 use test_lib_rules::call::needed;
+use test_lib_rules::page;
 use test_lib_tools::report::Tally;
 use test_lib_tools::words::get;
 use test_lib_tools::words::less;
@@ -56,7 +58,7 @@ fn value(j: u64, u: u64, ticks: u64) -> u64 {
     }
 }
 
-// The calls: a tick; a dump that keeps, 100 and 111; an integration, an emission, a reading, a forecast.
+// The calls: a tick; a dump that keeps, 100 and 111; an integration, an emission, a reading, a forecast, a page.
 fn kind(g: u64) -> u64 {
     match g {
         0 => TICK,
@@ -64,7 +66,8 @@ fn kind(g: u64) -> u64 {
         4 => INTEGRATE,
         5 => EMIT,
         6 => READING,
-        _ => FORECAST,
+        7 => FORECAST,
+        _ => PAGE,
     }
 }
 
@@ -87,12 +90,21 @@ fn second(g: u64) -> u64 {
     }
 }
 
+// Samples of both cells, a frame's length, a page's.
+fn bytes(n: u64, g: u64) -> u64 {
+    match g {
+        0 => 4,
+        8 => page::length(2),
+        _ => 34 + 8 * (n % 256),
+    }
+}
+
 // Call g in its variant i, on the last cell. A dump names the only phase bin.
 fn call(n: u64, g: u64, i: u64) -> Call {
     Call {
         kind: kind(g),
         words: needed(shape(n)),
-        bytes: if g == 0 { 4 } else { 34 + 8 * (n % 256) },
+        bytes: bytes(n, g),
         cell: 1,
         a: first(g, i),
         b: second(g),
@@ -101,7 +113,7 @@ fn call(n: u64, g: u64, i: u64) -> Call {
 }
 
 // How many variants matter to call g, and which they are.
-const VARIANTS: [u64; 8] = [2, 12, 4, 4, 18, 3, 1, 2];
+const VARIANTS: [u64; 9] = [2, 12, 4, 4, 18, 3, 1, 2, 1];
 
 fn variant_of(g: u64, i: u64) -> u64 {
     match g {

@@ -1,3 +1,5 @@
-// What an accepted call leaves of any words of work memory: the words (after) and the frame of a bin (frames).
+// What an accepted call leaves of any words of work memory: the words (after); the frame of a bin (frames); the page
+// (pages).
 pub mod after;
 pub mod frames;
+pub mod pages;

@@ -14,6 +14,7 @@ use std::num::wrapping_add_u64;
 use test_lib_rules::call::ACCEPTED;
 use test_lib_rules::call::Call;
 use test_lib_rules::call::DUMP;
+use test_lib_rules::call::PAGE;
 use test_lib_rules::call::TICK;
 use test_lib_tools::bytes::head;
 
@@ -113,20 +114,29 @@ pub fn moves(s: Shape, mem: &mut [u64], k: Call, samples: &[u8]) -> u64 {
     }
 }
 
-// An emission into as many bytes as the call lends.
-fn emit_lent(s: Shape, mem: &mut [u64], k: Call, out: &mut [u8]) -> u64 {
+// An emission or a page.
+fn into_lent(s: Shape, mem: &mut [u64], k: Call, out: &mut [u8]) -> u64 {
+    if k.kind == PAGE {
+        written(lta::page(s, mem, out))
+    } else {
+        written(lta::emit(s, mem, k.cell, k.a, k.b, out))
+    }
+}
+
+// An emission or a page, into as many bytes as the call lends.
+fn writes_lent(s: Shape, mem: &mut [u64], k: Call, out: &mut [u8]) -> u64 {
     let room = (k.bytes % 65536) as usize;
     if room <= out.len() {
-        written(lta::emit(s, mem, k.cell, k.a, k.b, &mut out[0..room]))
+        into_lent(s, mem, k, &mut out[0..room])
     } else {
         NOT_LENT
     }
 }
 
-pub fn emit(s: Shape, mem: &mut [u64], k: Call, out: &mut [u8]) -> u64 {
+pub fn writes(s: Shape, mem: &mut [u64], k: Call, out: &mut [u8]) -> u64 {
     let e = (k.words % 65536) as usize;
     if e <= mem.len() {
-        emit_lent(s, &mut mem[0..e], k, out)
+        writes_lent(s, &mut mem[0..e], k, out)
     } else {
         NOT_LENT
     }

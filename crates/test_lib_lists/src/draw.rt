@@ -10,9 +10,11 @@ use test_lib_rules::call::Call;
 use test_lib_rules::call::DUMP;
 use test_lib_rules::call::EMIT;
 use test_lib_rules::call::FORECAST;
+use test_lib_rules::call::PAGE;
 use test_lib_rules::call::TICK;
 use test_lib_rules::call::needed;
 use test_lib_rules::call::shaped;
+use test_lib_rules::page;
 use test_lib_tools::random::below;
 use test_lib_tools::words::get;
 use test_lib_tools::words::less;
@@ -55,8 +57,8 @@ fn digit(text: &[u8], i: u64) -> u64 {
 // Half of the calls are ticks.
 fn kind(m: &[u64], i: u64) -> u64 {
     digit(
-        b"0000000000000000000011111111222222333445",
-        random(m, i, 0, 40),
+        b"000000000000000000000111111112222223334456",
+        random(m, i, 0, 42),
     )
 }
 
@@ -82,17 +84,17 @@ fn samples(m: &[u64], i: u64) -> u64 {
     near(random(m, i, 5, 120), right, right + 2)
 }
 
-// The buffer of an emission: now and then a long one.
-fn room(m: &[u64], i: u64) -> u64 {
+// The buffer of an emission or a page: now and then a long one.
+fn room(m: &[u64], i: u64, right: u64) -> u64 {
     let x = random(m, i, 5, 16);
-    near(if x == 4 { 3 } else { x }, 34 + 8 * (lags(m) % 256), 1200)
+    near(if x == 4 { 3 } else { x }, right, 4100)
 }
 
 fn bytes(m: &[u64], i: u64, kind: u64) -> u64 {
-    if kind == TICK {
-        samples(m, i)
-    } else {
-        room(m, i)
+    match kind {
+        TICK => samples(m, i),
+        PAGE => room(m, i, page::length(cells(m))),
+        _ => room(m, i, 34 + 8 * (lags(m) % 256)),
     }
 }
 

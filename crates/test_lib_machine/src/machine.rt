@@ -23,11 +23,13 @@ use test_lib_rules::call::Call;
 use test_lib_rules::call::DUMP;
 use test_lib_rules::call::EMIT;
 use test_lib_rules::call::INTEGRATE;
+use test_lib_rules::call::PAGE;
 use test_lib_rules::call::READING;
 use test_lib_rules::call::TICK;
 use test_lib_rules::call::data_bin;
 use test_lib_rules::call::next_block;
 use test_lib_rules::call::stored_command;
+use test_lib_rules::page;
 use test_lib_tools::words::less;
 use test_lib_tools::words::put;
 
@@ -127,6 +129,7 @@ pub fn says(m: &[u64], k: Call) -> u64 {
         }
         EMIT => emit_says(m, k),
         READING => ACCEPTED,
+        PAGE => page::says(cells(m), k.bytes),
         _ => wrapping_add_u64(ACCEPTED, less(FULL, members(m, c, OPEN))),
     }
 }

@@ -26,6 +26,9 @@ pub const HELD: u64 = 7;
 
 pub const FRAME: u64 = 8;
 
+// All six losses of a cell, as one set.
+pub const LEDGER: u64 = 9;
+
 pub fn bin_place(k: u64) -> u64 {
     16 + k % 1024
 }
@@ -100,6 +103,12 @@ fn place(m: &[u64], c: u64, j: u64) -> u64 {
     of_cell(m, c, 128 + j % 896) % 65536
 }
 
+// Are the ticks of span j in the set of p?
+fn in_set(m: &[u64], c: u64, j: u64, p: u64) -> bool {
+    let q = place(m, c, j);
+    (q == p) | ((p == LEDGER) & (OPEN < q) & (q < HELD))
+}
+
 // A span ends where the next one starts, and the last one at t.
 fn end(m: &[u64], c: u64, j: u64) -> u64 {
     let next = j % 896 + 1;
@@ -116,7 +125,7 @@ pub fn members(m: &[u64], c: u64, p: u64) -> u64 {
     let mut total: u64 = 0;
     let mut j: u64 = 0;
     while j < count {
-        if place(m, c, j) == p {
+        if in_set(m, c, j, p) {
             total = wrapping_add_u64(total, less(end(m, c, j), first(m, c, j)));
         }
         j += 1;
@@ -135,7 +144,7 @@ pub fn sum(m: &[u64], c: u64, p: u64, k: u64, what: u64) -> u64 {
     let mut total: u64 = 0;
     let mut j: u64 = 0;
     while j < count {
-        if place(m, c, j) == p {
+        if in_set(m, c, j, p) {
             total = wrapping_add_u64(total, span_sum(m, c, k, what, j));
         }
         j += 1;

@@ -23,9 +23,11 @@ use test_lib_rules::call::Call;
 use test_lib_rules::call::DUMP;
 use test_lib_rules::call::EMIT;
 use test_lib_rules::call::INTEGRATE;
+use test_lib_rules::call::PAGE;
 use test_lib_rules::call::READING;
 use test_lib_rules::call::TICK;
 use test_lib_rules::call::refusal;
+use test_lib_rules::page;
 use test_lib_tools::words::get;
 use test_lib_tools::words::less;
 use test_lib_tools::words::tail;
@@ -134,11 +136,36 @@ pub fn full(cell: &[u64], n: u64) -> bool {
     ticks(cell, n, OPEN) == SHORT
 }
 
-fn cells_bad(mem: &[u64], n: u64, b: u64, cells: u64) -> bool {
+// The ticks of all six losses, each of which is within its limit.
+fn lost(cell: &[u64], n: u64) -> u64 {
+    let mut total: u64 = 0;
+    let mut l: u64 = 1;
+    while l < 7 {
+        total = wrapping_add_u64(total, ticks(cell, n, loss(l)));
+        l += 1;
+    }
+    total
+}
+
+// A page, of one cell: its losses "and six that together pass 2,147,483,648 ticks".
+fn ledger_bad(cell: &[u64], n: u64) -> bool {
+    losses_bad(cell, n) | (lost(cell, n) > LONG)
+}
+
+// A cell, as a tick or a page tests it.
+fn tested_bad(cell: &[u64], n: u64, t: u64, kind: u64) -> bool {
+    if kind == TICK {
+        cell_bad(cell, n, t)
+    } else {
+        ledger_bad(cell, n)
+    }
+}
+
+fn cells_bad(mem: &[u64], n: u64, b: u64, cells: u64, kind: u64) -> bool {
     let mut bad = false;
     let mut c: u64 = 0;
     while c < cells {
-        let one = cell_bad(cell_of(mem, n, b, c), n, get(mem, 0));
+        let one = tested_bad(cell_of(mem, n, b, c), n, get(mem, 0), kind);
         bad = bad | one;
         c += 1;
     }
@@ -287,10 +314,19 @@ fn tick_says(mem: &[u64], n: u64, b: u64, cells: u64) -> u64 {
     if t == LONG {
         return 4;
     }
-    if (t > LONG) | cells_bad(mem, n, b, cells) {
+    if (t > LONG) | cells_bad(mem, n, b, cells, TICK) {
         11
     } else {
         wrapping_add_u64(ACCEPTED, held_off(mem, n, b, cells))
+    }
+}
+
+// A page: 11, then 10.
+fn page_says(mem: &[u64], n: u64, b: u64, cells: u64, bytes: u64) -> u64 {
+    if (get(mem, 0) > LONG) | cells_bad(mem, n, b, cells, PAGE) {
+        11
+    } else {
+        page::says(cells, bytes)
     }
 }
 
@@ -311,9 +347,10 @@ pub fn says(s: Shape, mem: &[u64], k: Call) -> u64 {
     }
     let n = s.lags;
     let b = s.bins;
-    if k.kind == TICK {
-        tick_says(mem, n, b, s.cells)
-    } else {
-        cell_says(cell_of(mem, n, b, k.cell), n, b, s.blocks, get(mem, 0), k)
+    let kind = k.kind;
+    match kind {
+        TICK => tick_says(mem, n, b, s.cells),
+        PAGE => page_says(mem, n, b, s.cells, k.bytes),
+        _ => cell_says(cell_of(mem, n, b, k.cell), n, b, s.blocks, get(mem, 0), k),
     }
 }

@@ -1,4 +1,5 @@
 // What follows from the plain machine's sets and the sampler's bytes: the words of work memory by docs/LAYOUT.md
-// (memory) and the frames (frames).
+// (memory), the frames (frames) and the pages (pages).
 pub mod frames;
 pub mod memory;
+pub mod pages;

@@ -21,7 +21,7 @@ use test_lib_tools::words::get;
 use test_lib_tools::words::less;
 
 // Word j of the row of a set: ticks, edge and centre count, then I and Q of each lag, sum + 98 × ticks.
-fn row_word(m: &[u64], c: u64, p: u64, j: u64) -> u64 {
+pub fn row_word(m: &[u64], c: u64, p: u64, j: u64) -> u64 {
     let ticks = members(m, c, p) % 4294967296;
     match j {
         0 => ticks,

@@ -1,9 +1,10 @@
-// One call on memory that the test has set: its answer, what it wrote, and every word afterwards are held to what
-// document 01 says of those words.
+// One call on memory that the test has set: its answer, what it wrote, and every word afterwards are held to what the
+// papers say of those words.
 use lta_spec::Shape;
 use std::num::wrapping_sub_u64;
 use test_lib_after::after::right;
 use test_lib_after::frames::frame_right;
+use test_lib_after::pages::page_right;
 use test_lib_calls::ask;
 use test_lib_calls::ask::Numbers;
 use test_lib_memory::due::says;
@@ -13,6 +14,7 @@ use test_lib_rules::call::ACCEPTED;
 use test_lib_rules::call::Call;
 use test_lib_rules::call::EMIT;
 use test_lib_rules::call::FORECAST;
+use test_lib_rules::call::PAGE;
 use test_lib_rules::call::READING;
 use test_lib_tools::bytes::fill_pattern;
 use test_lib_tools::bytes::kept;
@@ -31,20 +33,23 @@ fn moves(s: Shape, mem: &mut [u64], k: Call) -> u64 {
     ask::moves(s, mem, k, &[x, y, x, y, x, y])
 }
 
-// Is the frame right; or, where the emission is refused, is no byte of the buffer written?
+// Is the frame or the page right; or, where the call is refused, is no byte of the buffer written?
 fn buffer_right(s: Shape, old: &[u64], k: Call, out: &[u8], due: u64) -> bool {
     if due < ACCEPTED {
-        kept(out, 0)
+        return kept(out, 0);
+    }
+    if k.kind == PAGE {
+        page_right(s, old, out)
     } else {
         frame_right(s, old, k, out)
     }
 }
 
-// An emission, with its frame.
-fn emits(s: Shape, mem: &mut [u64], old: &[u64], k: Call, due: u64) -> bool {
-    let mut out = [0u8; 1200];
+// An emission with its frame, or a page with its lines.
+fn writes(s: Shape, mem: &mut [u64], old: &[u64], k: Call, due: u64) -> bool {
+    let mut out = [0u8; 1300];
     fill_pattern(&mut out);
-    let told = ask::emit(s, mem, k, &mut out) == due;
+    let told = ask::writes(s, mem, k, &mut out) == due;
     told & buffer_right(s, old, k, &out, due)
 }
 
@@ -79,7 +84,7 @@ fn reads(s: Shape, mem: &[u64], k: Call, due: u64) -> bool {
 fn answers(s: Shape, mem: &mut [u64], old: &[u64], k: Call, due: u64) -> bool {
     let kind = k.kind;
     match kind {
-        EMIT => emits(s, mem, old, k, due),
+        EMIT | PAGE => writes(s, mem, old, k, due),
         READING => reads(s, mem, k, due),
         FORECAST => ask::forecast(s, mem, k) == due,
         _ => moves(s, mem, k) == due,
@@ -104,17 +109,18 @@ fn leaves(s: Shape, mem: &[u64], old: &[u64], k: Call, due: u64) -> bool {
     }
 }
 
-// The call on `mem`, whose words are those of `old`, answers `due`, and leaves what is due.
-fn agrees(s: Shape, mem: &mut [u64], old: &[u64], k: Call, due: u64) -> bool {
-    let told = answers(s, &mut *mem, old, k, due);
+// The call on `mem`, whose words are those of `old`, answers `due`, which is also what the model says, and leaves what
+// is due.
+pub fn agrees(s: Shape, mem: &mut [u64], old: &[u64], k: Call, due: u64) -> bool {
+    let told = answers(s, &mut *mem, old, k, due) & (says(s, old, k) == due);
     told & leaves(s, mem, old, k, due)
 }
 
-// A row: the call on these words answers `due`, which is also what the model says.
+// A row: the call on these words answers `due`.
 pub fn held_to(t: Tally, s: Shape, old: [u64; 384], k: Call, due: u64) -> Tally {
     let mut mem = old;
     let so = agrees(s, &mut mem, &old, k, due);
-    row(t, so & (says(s, &old, k) == due), due < ACCEPTED)
+    row(t, so, due < ACCEPTED)
 }
 
 // A row in which the model alone says what is due.

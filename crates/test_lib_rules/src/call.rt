@@ -20,11 +20,13 @@ pub const READING: u64 = 4;
 
 pub const FORECAST: u64 = 5;
 
+pub const PAGE: u64 = 6;
+
 pub struct Call {
     pub kind: u64,
     // Words of work memory lent.
     pub words: u64,
-    // Bytes lent: a tick's samples, or the buffer of an emission.
+    // Bytes lent: a tick's samples, or the buffer of an emission or a page.
     pub bytes: u64,
     pub cell: u64,
     // A dump's command, an emission's bank, a reading's lag.
@@ -109,7 +111,7 @@ fn cell_refusal(s: Shape, k: Call) -> u64 {
 }
 
 // The first refusal that the arguments alone give, 0 where there is none. "Setup and every call on a run test 1, then
-// 2, first"; "3: not 2C bytes".
+// 2, first"; "3: not 2C bytes"; a page has no other argument that they test.
 pub fn refusal(s: Shape, k: Call) -> u64 {
     if shape_wrong(s) {
         return 1;
@@ -117,10 +119,11 @@ pub fn refusal(s: Shape, k: Call) -> u64 {
     if k.words != needed(s) {
         return 2;
     }
-    if k.kind == TICK {
-        if k.bytes == 2 * (s.cells % 32) { 0 } else { 3 }
-    } else {
-        cell_refusal(s, k)
+    let kind = k.kind;
+    match kind {
+        TICK => { if k.bytes == 2 * (s.cells % 32) { 0 } else { 3 } }
+        PAGE => 0,
+        _ => cell_refusal(s, k),
     }
 }
 

@@ -1,5 +1,6 @@
-// Document 01 without any state: what it says of a call's arguments (call), the sampler's bytes and what a tick adds by
-// them (history), and the header words of a frame (frame_words).
+// The papers without any state: what they say of a call's arguments (call), the sampler's bytes and what a tick adds by
+// them (history), the header words of a frame (frame_words), and the bytes of a page (page).
 pub mod call;
 pub mod frame_words;
 pub mod history;
+pub mod page;

@@ -14,10 +14,12 @@ use test_lib_machine::sets::sum;
 use test_lib_machine::sets::time;
 use test_lib_numbers::frames::right;
 use test_lib_numbers::memory::differ;
+use test_lib_numbers::pages::page_right;
 use test_lib_rules::call::ACCEPTED;
 use test_lib_rules::call::Call;
 use test_lib_rules::call::EMIT;
 use test_lib_rules::call::FORECAST;
+use test_lib_rules::call::PAGE;
 use test_lib_rules::call::READING;
 use test_lib_rules::call::needed;
 use test_lib_rules::call::refusal;
@@ -34,14 +36,14 @@ use test_lib_tools::words::less;
 use test_lib_tools::words::put;
 
 // Where the tally of a kind of call stands, of the setups, of the memories compared, and of the list.
-pub const SETUPS: u64 = 6;
+pub const SETUPS: u64 = 7;
 
-const MEMORIES: u64 = 7;
+const MEMORIES: u64 = 8;
 
-pub const LIST: u64 = 8;
+pub const LIST: u64 = 9;
 
 // Where the number of words compared stands.
-pub const WORDS: u64 = 25;
+pub const WORDS: u64 = 26;
 
 pub fn tally(m: &[u64], kind: u64) -> u64 {
     get(m, 16 + kind % 16)
@@ -79,20 +81,23 @@ fn moves(mem: &mut [u64], m: &[u64], s: Shape, k: Call) -> u64 {
     ask::moves(s, mem, k, &samples)
 }
 
-// Is the frame right; or, where the emission is refused, is no byte of the buffer written?
+// Is the frame or the page right; or, where the call is refused, is no byte of the buffer written?
 fn buffer_right(m: &[u64], k: Call, out: &[u8], due: u64) -> bool {
     if due < ACCEPTED {
-        kept(out, 0)
+        return kept(out, 0);
+    }
+    if k.kind == PAGE {
+        page_right(m, out)
     } else {
         right(m, k.cell, k.a, k.b, out)
     }
 }
 
-// An emission, with its frame.
-fn emits(mem: &mut [u64], m: &[u64], s: Shape, k: Call, due: u64) -> bool {
-    let mut out = [0u8; 1200];
+// An emission with its frame, or a page with its lines.
+fn writes(mem: &mut [u64], m: &[u64], s: Shape, k: Call, due: u64) -> bool {
+    let mut out = [0u8; 4200];
     fill_pattern(&mut out);
-    let told = ask::emit(s, mem, k, &mut out) == due;
+    let told = ask::writes(s, mem, k, &mut out) == due;
     told & buffer_right(m, k, &out, due)
 }
 
@@ -120,19 +125,19 @@ fn reads(mem: &[u64], m: &[u64], s: Shape, k: Call, due: u64) -> bool {
 fn answers(mem: &mut [u64], m: &[u64], s: Shape, k: Call, due: u64) -> bool {
     let kind = k.kind;
     match kind {
-        EMIT => emits(mem, m, s, k, due),
+        EMIT | PAGE => writes(mem, m, s, k, due),
         READING => reads(mem, m, s, k, due),
         FORECAST => ask::forecast(s, mem, k) == due,
         _ => moves(mem, m, s, k) == due,
     }
 }
 
-// Does it, and does it leave memory as it is where it is refused?
+// Does it, and does it leave memory as it is where it is refused, or is a page?
 fn agrees(mem: &mut [u64], m: &[u64], s: Shape, k: Call, due: u64) -> bool {
-    let refused = due < ACCEPTED;
-    let before = digest_if(refused, mem);
+    let still = (due < ACCEPTED) | (k.kind == PAGE);
+    let before = digest_if(still, mem);
     let told = answers(&mut *mem, m, s, k, due);
-    told & (digest_if(refused, mem) == before)
+    told & (digest_if(still, mem) == before)
 }
 
 // The digest of memory, where it is asked for.

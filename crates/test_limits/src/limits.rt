@@ -10,6 +10,7 @@ use test_lib_row::modelled;
 use test_lib_rules::call::ACCEPTED;
 use test_lib_rules::call::Call;
 use test_lib_rules::call::DUMP;
+use test_lib_rules::call::PAGE;
 use test_lib_rules::call::TICK;
 use test_lib_rules::call::needed;
 use test_lib_rules::call::shaped;
@@ -196,7 +197,7 @@ fn bad(t: Tally, s: Shape) -> Tally {
 fn calls(t: Tally, s: Shape) -> Tally {
     let mut sum = t;
     let mut kind: u64 = 0;
-    while kind < 6 {
+    while kind < 7 {
         sum = call(sum, s, kind);
         kind += 1;
     }
@@ -223,7 +224,7 @@ pub fn plain(kind: u64, cell: u64, a: u64, b: u64, phase: u64) -> Call {
     Call {
         kind: kind,
         words: needed(shape(2)),
-        bytes: pick(kind == TICK, 4, 50),
+        bytes: pick(kind == TICK, 4, pick(kind == PAGE, 533, 50)),
         cell: cell,
         a: a,
         b: b,

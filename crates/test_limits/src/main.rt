@@ -1,4 +1,4 @@
-// Holds the calls on a run to document 01 at both sides of every limit of shapes, arguments and sets. What is due is
+// Holds the calls on a run to the papers at both sides of every limit of shapes, arguments and sets. What is due is
 // written in the rows, or decided by test_lib_memory.
 mod binning;
 mod limits;

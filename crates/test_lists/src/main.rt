@@ -1,5 +1,5 @@
-// Holds the calls on a run to document 01, by long lists of calls: every answer, frame and reading, and all words of
-// work memory, are compared with the plain machine of test_lib_machine, which knows sets of tick numbers and the
+// Holds the calls on a run to the papers, by long lists of calls: every answer, frame, reading and page, and all words
+// of work memory, are compared with the plain machine of test_lib_machine, which knows sets of tick numbers and the
 // sampler's bytes alone.
 use lta_spec::Shape;
 use std::num::wrapping_add_u64;
@@ -64,7 +64,7 @@ fn fresh(m: &[u64], l: u64, i: u64) -> u64 {
         7 => s.second,
         8 => mix(l, 1),
         9 => ticks_of(l),
-        16..=23 | WORDS => get(m, i),
+        16..=24 | WORDS => get(m, i),
         _ => 0,
     }
 }
@@ -145,14 +145,14 @@ fn list(m: &mut [u64], l: u64) -> u64 {
 // The line of a kind of call.
 fn total(m: &[u64], kind: u64) {
     let names =
-        b"ticks       dumps       integrationsemissions   readings    forecasts   setups      memories    ";
+        b"ticks       dumps       integrationsemissions   readings    forecasts   pages       setups      memories    ";
     part(names, 12 * (kind % 16), 12);
     counts(tally(m, kind));
 }
 
 fn totals(m: &[u64]) {
     let mut kind: u64 = 0;
-    while kind < 8 {
+    while kind < 9 {
         total(m, kind);
         kind += 1;
     }

@@ -1,4 +1,4 @@
-// Holds the calls on a run to the order of document 01's refusals. What is due is written in the rows, or decided by
+// Holds the calls on a run to the order of the papers' refusals. What is due is written in the rows, or decided by
 // test_lib_memory.
 mod order;
 
@@ -10,7 +10,7 @@ use test_lib_tools::report::verdict;
 fn rows() -> Tally {
     let mut t: Tally = 0;
     let mut i: u64 = 0;
-    while i < 1024 {
+    while i < 1280 {
         t = order::refusals(t, i);
         i += 1;
     }

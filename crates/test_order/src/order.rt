@@ -1,5 +1,5 @@
 // "Where several apply, the order stands after each group": each call with every choice of the defects that it may be
-// told of. The first in document 01's order is due. A dump comes three times, with another word damaged.
+// told of. The first in the papers' order is due. A dump comes three times, with another word damaged; a page twice.
 use lta_spec::Shape;
 use std::num::wrapping_add_u64;
 use test_lib_memory::base::BINS;
@@ -21,8 +21,8 @@ use test_lib_row::held_to;
 use test_lib_rules::call::Call;
 use test_lib_rules::call::DUMP;
 use test_lib_rules::call::EMIT;
-use test_lib_rules::call::FORECAST;
 use test_lib_rules::call::INTEGRATE;
+use test_lib_rules::call::PAGE;
 use test_lib_rules::call::READING;
 use test_lib_rules::call::TICK;
 use test_lib_rules::call::needed;
@@ -32,9 +32,17 @@ use test_lib_tools::words::put;
 
 const LAGS: u64 = 2;
 
-// The orders of a tick, a dump, an integration, an emission, a reading and a forecast, as hexadecimal digits, the first
-// lowest: "Then 11", "Order 5, 6, 7, 11", "Order 5, 11, then 8", and so on.
-const ORDER: [u64; 6] = [0xb4321, 0xb76521, 0x8b521, 0xa9b7521, 0xbc521, 0xb521];
+// The orders of a tick, a dump, an integration, an emission, a reading, a forecast and a page, as hexadecimal digits,
+// the first lowest: "Then 11", "Order 5, 6, 7, 11", "Order 5, 11, then 8", and so on; "by 10 after 1, 2 and 11".
+const ORDER: [u64; 7] = [
+    0xb4321,
+    0xb76521,
+    0x8b521,
+    0xa9b7521,
+    0xbc521,
+    0xb521,
+    0xab21,
+];
 
 // Number j of a call's order, 0 past its end.
 fn number(kind: u64, j: u64) -> u64 {
@@ -90,12 +98,12 @@ fn lent(kind: u64, mask: u64) -> Shape {
     }
 }
 
-// 3: a byte less. 10: a byte less than a frame.
+// 3: a byte less. 10: a byte less than a frame, or than a page.
 fn bytes(kind: u64, mask: u64) -> u64 {
-    if kind == TICK {
-        choose(kind, mask, 3, 3, 4)
-    } else {
-        choose(kind, mask, 10, 49, 50)
+    match kind {
+        TICK => choose(kind, mask, 3, 3, 4),
+        PAGE => choose(kind, mask, 10, 532, 533),
+        _ => choose(kind, mask, 10, 49, 50),
     }
 }
 
@@ -133,7 +141,11 @@ fn call(kind: u64, mask: u64) -> Call {
 
 // The kind of call of group g.
 fn kind_of(g: u64) -> u64 {
-    if g > FORECAST { DUMP } else { g }
+    match g {
+        7 | 8 => DUMP,
+        9 => PAGE,
+        _ => g,
+    }
 }
 
 // The word of the last cell that 11 is told of in group g: a register entry, Open's stamp, Held's, the bin's, the
@@ -144,15 +156,22 @@ fn damaged(g: u64) -> u64 {
         INTEGRATE => HELD_STAMP,
         EMIT => wrapping_add_u64(bin(LAGS, BINS), 1),
         READING => row(LAGS, loss(6)),
-        6 => BLOCK,
-        7 => LAST_COMMAND,
+        PAGE | 9 => row(LAGS, loss(1)),
+        7 => BLOCK,
+        8 => LAST_COMMAND,
         _ => OPEN_STAMP,
     }
 }
 
+// What stands there: past every limit, or, in the second group of pages, ticks within their own, where the six pass
+// theirs together.
+fn value(g: u64) -> u64 {
+    if g == 9 { 2147483648 } else { 2147483649 }
+}
+
 // Memory of a Ready bin, and of a Held that is occupied and empty; 4: t is 2,147,483,648; 9: a bin that is Filling;
 // 11: a word of the last cell is damaged.
-fn memory(kind: u64, mask: u64, word: u64) -> [u64; 384] {
+fn memory(kind: u64, mask: u64, word: u64, x: u64) -> [u64; 384] {
     let v = variant(
         choose(kind, mask, 8, 0, 1),
         1,
@@ -162,11 +181,7 @@ fn memory(kind: u64, mask: u64, word: u64) -> [u64; 384] {
     let t = choose(kind, mask, 4, 2147483648, NOW);
     let mut mem = built(LAGS, v, needed(shape(LAGS)), 0, t);
     if has(kind, mask, 11) {
-        put(
-            &mut mem,
-            wrapping_add_u64(start(LAGS, BINS, 1), word),
-            2147483649,
-        );
+        put(&mut mem, wrapping_add_u64(start(LAGS, BINS, 1), word), x);
     }
     mem
 }
@@ -178,10 +193,10 @@ fn due(told: u64, s: Shape, old: [u64; 384], k: Call) -> u64 {
 
 // Row r: group r div 128, mask r mod 128.
 pub fn refusals(t: Tally, r: u64) -> Tally {
-    let g = r / 128 % 8;
+    let g = r / 128 % 10;
     let kind = kind_of(g);
     let mask = r % 128;
-    let old = memory(kind, mask, damaged(g));
+    let old = memory(kind, mask, damaged(g), value(g));
     let k = call(kind, mask);
     let s = lent(kind, mask);
     held_to(t, s, old, k, due(first(kind, mask), s, old, k))

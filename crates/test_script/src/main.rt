@@ -1,26 +1,30 @@
 // Scripts held in memory, each on a fresh run: one script cut at every byte, marks that are unknown, every refusal and
 // every loss that a script can meet, and frames whose words tell signs, banks and data bins apart.
+use libc::STDOUT_FILENO;
 use lta_spec::Started;
+use lta_spec::Written;
 use script::input::run_bytes;
 use script::shape;
 use script_bytes::head;
-use script_lines::field;
-use script_lines::text;
 
-// A script on a fresh run.
+// A script on a fresh run: its text goes into a buffer, and from there to standard output.
 fn play(s: &[u8]) {
     let mut mem = [0u64; 105];
     let Started::Fresh = lta::setup(shape(), &mut mem) else {
         return;
     };
-    run_bytes(&mut mem, s);
+    let mut out = io::buffer();
+    let Written::Length(n) = run_bytes(&mut mem, s, &mut out) else {
+        return;
+    };
+    io::write_all(STDOUT_FILENO, head(&out, n as usize));
 }
 
 // A script under the line that says how many bytes it has.
 fn show(s: &[u8]) {
-    text(b"--");
-    field(s.len() as u64);
-    text(b"\n");
+    io::write_all(STDOUT_FILENO, b"-- ");
+    io::print_decimal(STDOUT_FILENO, s.len() as u64);
+    io::write_all(STDOUT_FILENO, b"\n");
     play(s);
 }
 

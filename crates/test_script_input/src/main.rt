@@ -2,10 +2,10 @@
 // which ends in a cut record; then files, one of more than 1,000 blocks, through the smallest block that has room for
 // every record.
 use libc::STDIN_FILENO;
+use libc::STDOUT_FILENO;
 use lta_spec::Started;
 use script::input::run_input;
 use script::shape;
-use script_lines::text;
 
 // A script from a file descriptor, through the block lent.
 fn stream(fd: i32, block: &mut [u8]) {
@@ -18,9 +18,9 @@ fn stream(fd: i32, block: &mut [u8]) {
 
 // A script from a file, under the line that names it.
 fn file(name: &[u8]) {
-    text(b"-- ");
-    text(name);
-    text(b"\n");
+    io::write_all(STDOUT_FILENO, b"-- ");
+    io::write_all(STDOUT_FILENO, name);
+    io::write_all(STDOUT_FILENO, b"\n");
     let mut block = [0u8; 7];
     let fd = os::open_read(name);
     stream(fd, &mut block);

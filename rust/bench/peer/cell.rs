@@ -1,4 +1,5 @@
 //! One cell: the tests of its parts, and what each call does in it.
+use std::array::from_fn;
 use std::ops::Range;
 
 use lta::{Loss, Moved};
@@ -35,9 +36,23 @@ impl CellRef<'_> {
         self.stamp_ok(OPEN_STAMP, t) && row_ok(&self.words[self.layout.open()], OPEN_LIMIT)
     }
 
+    /// Inlined in every call that has it: as a function of its own it makes the peer's ticks a fifth slower.
+    #[inline(always)]
     pub fn losses_ok(&self) -> bool {
         let mut rows = self.words[self.layout.losses()].chunks_exact(self.layout.row_words());
         rows.all(|row| row_ok(row, RUN_LIMIT))
+    }
+
+    /// Ticks, edge count and centre count of each loss.
+    pub fn losses(&self) -> [[i64; 3]; 6] {
+        from_fn(|loss| {
+            let row = &self.words[self.layout.loss(loss)];
+            [row[0], row[1], row[2]]
+        })
+    }
+
+    pub fn page_ok(&self) -> bool {
+        self.losses_ok() && self.losses().iter().map(|[ticks, ..]| ticks).sum::<i64>() <= RUN_LIMIT
     }
 
     fn held_ok(&self, t: i64) -> bool {

@@ -1,5 +1,6 @@
 //! Altered work memory: words changed to values near their limits. Refusal 11 is given exactly by the clauses of
-//! document 01 and request 2026-01 on the parts that the call tests, and what is bad elsewhere is kept as it is.
+//! document 01 and requests 2026-01 and 2026-03 on the parts that the call tests, and what is bad elsewhere is kept as
+//! it is.
 use crate::call::{Call, Reply, Shape};
 use crate::damage;
 use crate::driver::{fresh, perform};
@@ -118,13 +119,14 @@ fn altered_memory() {
         }
     }
     tally.print("altered memory");
-    for name in ["tick", "dump", "integrate", "emit", "reading", "forecast"] {
+    for name in ["tick", "dump", "integrate", "emit", "reading", "forecast", "page"] {
         tally.met(name, &["refusal 11"]);
     }
     tally.met("tick", &["accepted", "held off", "refusal 4"]);
     tally.met("integrate", &["answer 0", "answer 3", "answer 4", "answer 5", "refusal 8"]);
     tally.met("dump", &["answer 0", "answer 1", "answer 2", "answer 7"]);
     tally.met("emit", &["accepted", "refusal 9"]);
+    tally.met("page", &["accepted", "refusal 10"]);
 }
 
 /// A row of so many ticks whose sums are as low as they may be: every stored sum is 0.
@@ -197,7 +199,8 @@ fn with_word(shape: &Shape, at: usize, word: u64, bad: bool) {
     let emit = Call::Emit { cell, bank, bin, room: shape.frame_length() };
     let reading = Call::Reading { cell, lag, loss, room: [2, 3] };
     let tick = Call::Tick { samples: vec![0x05; 4] };
-    for call in [tick, reading, Call::Forecast { cell }, emit, Call::Integrate { cell }] {
+    let page = Call::Page { room: shape.page_length() };
+    for call in [tick, reading, Call::Forecast { cell }, page, emit, Call::Integrate { cell }] {
         let reply = perform(&shape.numbers(), &mut sound, &call);
         assert!(!matches!(reply, Reply::Refused(_)), "{call:?}: {reply:?}");
         assert_eq!(perform(&shape.numbers(), &mut altered, &call), reply, "{call:?}, word {at} as {word}");

@@ -21,6 +21,10 @@ impl Shape {
         34 + 8 * self.lags as usize
     }
 
+    pub fn page_length(&self) -> usize {
+        41 * (6 * self.cells as usize + 1)
+    }
+
     /// The data bin of a phase bin that fits and of one of its blocks.
     pub fn data_bin(&self, phase: u64, block: u64) -> u64 {
         phase * self.blocks + (block - self.start)
@@ -36,6 +40,7 @@ pub enum Call {
     Emit { cell: u64, bank: u64, bin: u64, room: usize },
     Reading { cell: u64, lag: u64, loss: u64, room: [usize; 2] },
     Forecast { cell: u64 },
+    Page { room: usize },
 }
 
 #[derive(Clone, Debug, PartialEq, Eq)]
@@ -44,4 +49,5 @@ pub enum Reply {
     Number(u64),
     Frame(Vec<u8>),
     Sums([i64; 5]),
+    Page(Vec<u8>),
 }

@@ -95,6 +95,11 @@ fn integration_finds(cell: &Cell, t: u64, bins: u64) -> bool {
     }
 }
 
+/// A loss, or the six together.
+fn page_finds(cell: &Cell) -> bool {
+    losses_bad(cell) || cell.losses.iter().map(|loss| loss.ticks).sum::<u64>() > RUN_LIMIT
+}
+
 /// Is the run refused by 11 in this call, whose arguments are accepted?
 pub fn found(run: &Run, call: &Call) -> bool {
     let (t, bins) = (run.t, run.shape.bins);
@@ -108,6 +113,7 @@ pub fn found(run: &Run, call: &Call) -> bool {
         Call::Emit { cell, bank, bin, .. } => bin_bad(run.bin(cell, bank, bin), t),
         Call::Reading { cell, .. } => losses_bad(run.cell(cell)),
         Call::Forecast { cell } => open_bad(run.cell(cell), t),
+        Call::Page { .. } => run.cells.iter().any(page_finds),
     }
 }
 

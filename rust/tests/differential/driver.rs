@@ -22,13 +22,23 @@ fn number(result: u64) -> Reply {
     }
 }
 
-fn emit(shape: &[u64], mem: &mut [u64], (cell, bank, bin): (u64, u64, u64), room: usize) -> Reply {
+/// What a call writes in a lent buffer: so many bytes of it as its answer says, or none where it is refused.
+fn written(room: usize, call: impl FnOnce(&mut [u8]) -> u64) -> Result<Vec<u8>, u32> {
     let mut out = vec![LEFT; room];
-    let result = outcome(ffi::emit(shape, mem, cell, bank, bin, &mut out));
-    let written = result.map_or(0, |length| length as usize);
-    assert!(out[written..].iter().all(|byte| *byte == LEFT), "bytes past the frame");
-    out.truncate(written);
-    result.map_or_else(Reply::Refused, |_| Reply::Frame(out))
+    let result = outcome(call(&mut out));
+    let length = result.map_or(0, |length| length as usize);
+    assert!(out[length..].iter().all(|byte| *byte == LEFT), "bytes past what is written");
+    out.truncate(length);
+    result.map(|_| out)
+}
+
+fn emit(shape: &[u64], mem: &mut [u64], (cell, bank, bin): (u64, u64, u64), room: usize) -> Reply {
+    let frame = written(room, |out| ffi::emit(shape, mem, cell, bank, bin, out));
+    frame.map_or_else(Reply::Refused, Reply::Frame)
+}
+
+fn page(shape: &[u64], mem: &[u64], room: usize) -> Reply {
+    written(room, |out| ffi::page(shape, mem, out)).map_or_else(Reply::Refused, Reply::Page)
 }
 
 fn reading(shape: &[u64], mem: &[u64], (cell, lag, loss): (u64, u64, u64), room: [usize; 2]) -> Reply {
@@ -58,6 +68,7 @@ pub fn perform(shape: &[u64], mem: &mut [u64], call: &Call) -> Reply {
         Call::Emit { cell, bank, bin, room } => emit(shape, mem, (cell, bank, bin), room),
         Call::Reading { cell, lag, loss, room } => reading(shape, mem, (cell, lag, loss), room),
         Call::Forecast { cell } => number(ffi::forecast(shape, mem, cell)),
+        Call::Page { room } => page(shape, mem, room),
     }
 }
 

@@ -57,7 +57,7 @@ fn counts(pair: &mut Pair) -> Vec<[u64; 2]> {
 /// The cell that a call names.
 fn named(call: &Call) -> Option<u64> {
     match *call {
-        Call::Tick { .. } => None,
+        Call::Tick { .. } | Call::Page { .. } => None,
         Call::Dump { cell, .. } | Call::Integrate { cell } | Call::Emit { cell, .. } => Some(cell),
         Call::Reading { cell, .. } | Call::Forecast { cell } => Some(cell),
     }
@@ -77,6 +77,7 @@ impl Calls {
     fn check(&self) {
         let Calls { all, own, others } = self;
         all.met("tick", &["accepted", "held off", "refusal 1", "refusal 2", "refusal 3", "refusal 4"]);
+        all.met("page", &["accepted", "refusal 1", "refusal 2", "refusal 10"]);
         own.met("tick", &["joins", "joins, another held off", "held off", "held off, another held off"]);
         own.met("dump", &["answer 7", "refusal 6", "refusal 7"]);
         own.met("integrate", &["answer 0", "answer 3", "answer 4", "refusal 8"]);

@@ -154,13 +154,18 @@ impl Generator {
             bank = self.argument(2);
             bin = self.argument(self.shape.bins);
         }
-        let length = self.shape.frame_length();
-        let room = if self.random.once_in(6) {
-            self.random.pick(&[0, 1, length - 1, length + 1, length + 100])
+        let room = self.room(self.shape.frame_length());
+        Call::Emit { cell, bank, bin, room }
+    }
+
+    /// A buffer for so many bytes, or one time in six one of another length.
+    fn room(&mut self, length: usize) -> usize {
+        let any = self.random.below(2 * length as u64) as usize;
+        if self.random.once_in(6) {
+            self.random.pick(&[0, 1, length - 1, length + 1, length + 100, any])
         } else {
             length
-        };
-        Call::Emit { cell, bank, bin, room }
+        }
     }
 
     fn reading(&mut self) -> Call {
@@ -178,13 +183,14 @@ impl Generator {
 
     /// One call on this run, a tick in about half of the cases.
     pub fn call(&mut self, run: &Run) -> Call {
-        match self.random.below(32) {
+        match self.random.below(33) {
             0..=15 => Call::Tick { samples: self.samples() },
             16..=21 => self.dump(),
             22..=26 => Call::Integrate { cell: self.argument(self.shape.cells) },
             27..=28 => self.emit(run),
             29..=30 => self.reading(),
-            _ => Call::Forecast { cell: self.argument(self.shape.cells) },
+            31 => Call::Forecast { cell: self.argument(self.shape.cells) },
+            _ => Call::Page { room: self.room(self.shape.page_length()) },
         }
     }
 

@@ -38,7 +38,7 @@ impl Three {
     }
 
     /// So many ticks of every cell; answers how many cells were held off, all ticks together.
-    fn ticks(&mut self, random: &mut Random, count: u64) -> u64 {
+    pub fn ticks(&mut self, random: &mut Random, count: u64) -> u64 {
         let mut held_off = 0;
         for _ in 0..count {
             let samples = random.bytes(2 * self.model.shape.cells as usize);
@@ -91,9 +91,11 @@ fn holdoff_with_real_ticks() {
     }
     assert_eq!(three.perform(&Call::Integrate { cell: 0 }), Reply::Number(0));
     three.perform(&Call::Emit { cell: 0, bank: 0, bin: 0, room: 66 });
+    three.perform(&Call::Page { room: 533 });
     three.compare();
     three.tally.print("hold-off with real ticks");
     three.tally.met("tick", &["held off"]);
+    three.tally.met("page", &["accepted"]);
 }
 
 #[test]
@@ -118,6 +120,7 @@ fn a_wide_bin_with_real_ticks() {
     three.compare();
     three.perform(&Call::Emit { cell: 0, bank: 0, bin: 0, room: 50 });
     three.perform(&Call::Reading { cell: 0, lag: 1, loss: 5, room: [2, 3] });
+    three.perform(&Call::Page { room: 287 });
     three.compare();
     three.tally.print("a wide bin with real ticks");
 }

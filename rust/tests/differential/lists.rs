@@ -160,6 +160,7 @@ fn check_outcomes(tally: &Tally) {
     tally.met("reading", &["accepted", "refusal 1", "refusal 2", "refusal 5"]);
     tally.met("reading", &["refusal 10", "refusal 12"]);
     tally.met("forecast", &["accepted", "refusal 1", "refusal 2", "refusal 5"]);
+    tally.met("page", &["accepted", "refusal 1", "refusal 2", "refusal 10"]);
 }
 
 #[test]
@@ -182,4 +183,5 @@ fn the_plain_machine_on_short_lists() {
     }
     tally.print("short lists, with the plain machine");
     tally.stepped(20);
+    tally.met("page", &["accepted", "refusal 10"]);
 }

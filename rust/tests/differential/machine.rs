@@ -5,6 +5,7 @@ use std::ops::Range;
 
 use crate::call::{Call, Reply, Shape};
 use crate::frame;
+use crate::page::{self, Counts};
 use crate::rules::{argument_refusal, FILLING, FREE, READY, RUN_LIMIT};
 use crate::signed::{self, Row};
 
@@ -177,6 +178,7 @@ impl Machine {
                 }
             }
             Call::Reading { room, .. } => (room[0] < 2 || room[1] < 3).then_some(10),
+            Call::Page { room } => (room < self.shape.page_length()).then_some(10),
             _ => None,
         }
     }
@@ -198,6 +200,7 @@ impl Machine {
             Call::Emit { cell, bank, bin, .. } => self.emit(cell, bank, bin),
             Call::Reading { cell, lag, loss, .. } => self.reading(cell, lag as usize, loss as usize),
             Call::Forecast { cell } => Reply::Number(524_288 - self.cells[cell as usize].open.set.members()),
+            Call::Page { .. } => self.page(),
         }
     }
 
@@ -214,6 +217,25 @@ impl Machine {
         let row = self.numbers(cell as usize, &self.cells[cell as usize].losses[loss - 1]);
         let [ticks, edge, centre] = [row.ticks, row.edge, row.centre].map(|count| count as i64);
         Reply::Sums([row.sums[2 * lag], row.sums[2 * lag + 1], ticks, edge, centre])
+    }
+
+    /// The counts of a set of a cell's ticks.
+    fn counts(&self, cell: usize, set: &Set) -> Counts {
+        let row = self.numbers(cell, set);
+        [row.ticks, row.edge, row.centre]
+    }
+
+    /// The totals are those of all that a cell has lost, as one set, from cell to cell.
+    fn page(&self) -> Reply {
+        let (mut lines, mut totals) = (Vec::new(), Counts::default());
+        for (c, cell) in self.cells.iter().enumerate() {
+            lines.push(std::array::from_fn(|i| self.counts(c, &cell.losses[i])));
+            let mut lost = Set::default();
+            cell.losses.iter().for_each(|set| lost.join(set.clone()));
+            let counts = self.counts(c, &lost);
+            totals.iter_mut().zip(counts).for_each(|(total, count)| *total += count);
+        }
+        Reply::Page(page::placed(&lines, totals))
     }
 
     /// The sampler byte of so many ticks before tick t, if the run had begun.

@@ -75,5 +75,6 @@ pub fn argument_refusal(shape: &Shape, call: &Call) -> Option<u32> {
         Call::Emit { bank, bin, .. } => (bank > 1 || bin >= shape.bins).then_some(7),
         Call::Reading { cell, .. } if no_cell(cell) => Some(5),
         Call::Reading { lag, loss, .. } => (lag >= shape.lags || !(1..=6).contains(&loss)).then_some(12),
+        Call::Page { .. } => None,
     }
 }

@@ -2,6 +2,7 @@
 //! `layout` also makes one of altered work memory.
 use crate::call::{Call, Reply, Shape};
 use crate::frame;
+use crate::page::{self, Counts};
 use crate::rules::{
     argument_refusal, ADD, BIN_LIMIT, DISCARD, FILLING, FREE, IDLE, LAST, OPEN_LIMIT, READY, RUN_LIMIT, SAVE,
 };
@@ -223,6 +224,7 @@ impl Run {
             Call::Emit { cell, bank, bin, .. } if self.bin(cell, bank, bin).state != READY => Some(9),
             Call::Emit { room, .. } if room < self.shape.frame_length() => Some(10),
             Call::Reading { room, .. } if room[0] < 2 || room[1] < 3 => Some(10),
+            Call::Page { room } if room < self.shape.page_length() => Some(10),
             _ => None,
         }
     }
@@ -246,6 +248,7 @@ impl Run {
             Call::Emit { cell, bank, bin, .. } => self.emit(cell, bank, bin),
             Call::Reading { cell, lag, loss, .. } => self.reading(cell, lag as usize, loss as usize),
             Call::Forecast { cell } => Reply::Number(OPEN_LIMIT - self.cell(cell).open.ticks),
+            Call::Page { .. } => self.page(),
         }
     }
 
@@ -262,5 +265,15 @@ impl Run {
         let counts = [row.ticks, row.edge, row.centre].map(|count| count as i64);
         let [ticks, edge, centre] = counts;
         Reply::Sums([row.sums[2 * lag], row.sums[2 * lag + 1], ticks, edge, centre])
+    }
+
+    /// The counts of each cell's losses.
+    pub fn losses(&self) -> Vec<[Counts; 6]> {
+        let counts = |row: &Row| [row.ticks, row.edge, row.centre];
+        self.cells.iter().map(|cell| cell.losses.each_ref().map(counts)).collect()
+    }
+
+    fn page(&self) -> Reply {
+        Reply::Page(page::formatted(&self.losses()))
     }
 }

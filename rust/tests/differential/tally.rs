@@ -53,6 +53,7 @@ impl Call {
             Call::Emit { .. } => "emit",
             Call::Reading { .. } => "reading",
             Call::Forecast { .. } => "forecast",
+            Call::Page { .. } => "page",
         }
     }
 }

@@ -161,6 +161,19 @@ fn places_of_a_pair_and_of_the_lag_part() {
     assert_eq!(frame.lag_part(), &frame.bytes()[start..start + 16]);
 }
 
+/// A page of the largest shape, cut into lines as long as the header says: each ends in a line feed, and no other byte
+/// is one.
+#[test]
+fn lines_of_a_page() {
+    let shape = Shape { cells: defined("LTA_CELLS_MOST"), ..SHAPE };
+    let page = Run::new(shape).unwrap().page().unwrap();
+    let length = defined("LTA_PAGE_LINE_LEN") as usize;
+    assert_eq!(page.len(), length * (6 * shape.cells as usize + 1));
+    for line in page.as_bytes().chunks(length) {
+        assert_eq!(line.iter().position(|byte| *byte == b'\n'), Some(length - 1));
+    }
+}
+
 /// What the header says of the version and of the largest shape.
 #[test]
 fn versions_and_limits() {

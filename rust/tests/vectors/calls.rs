@@ -28,12 +28,12 @@ fn plain(result: u64) -> Answer {
     told(result, |answer| format!("0 {answer}"))
 }
 
-/// A call that writes a frame in a lent buffer.
-fn framed(room: usize, call: impl FnOnce(&mut [u8]) -> u64) -> Answer {
+/// A call that writes a frame or a page in a lent buffer.
+fn filled(room: usize, call: impl FnOnce(&mut [u8]) -> u64) -> Answer {
     let mut out = Lent::new(room, LEFT);
     let result = call(out.part());
-    let frame = out.written(outcome(result).map_or(0, |length| length as usize))?;
-    told(result, |length| format!("0 {length} {}", hex(frame)))
+    let bytes = out.written(outcome(result).map_or(0, |length| length as usize))?;
+    told(result, |length| format!("0 {length} {}", hex(bytes)))
 }
 
 fn reading(shape: &[u64], mem: &[u64], cell: u64, lag: u64, loss: u64) -> Answer {
@@ -72,7 +72,7 @@ fn norm(lags: u64, lag: u64, frame: &[u8]) -> Answer {
 
 fn write(lags: u64, fields: &[&str], room: usize, lag_numbers: &[i32]) -> Answer {
     let head = fields.iter().map(|field| number(field)).collect::<Result<Vec<u32>, _>>()?;
-    framed(room, |out| ffi::write_frame(lags, &head, lag_numbers, out))
+    filled(room, |out| ffi::write_frame(lags, &head, lag_numbers, out))
 }
 
 /// The call with its arguments, of this shape, on this work memory.
@@ -88,12 +88,13 @@ pub fn perform(shape: &[u64], mem: &mut [u64], call: &[&str]) -> Answer {
         ["integrate", "-", cell] => plain(ffi::integrate(shape, mem, number(cell)?)),
         ["emit", "-", cell, bank, bin, room] => {
             let (cell, bank, bin) = (number(cell)?, number(bank)?, number(bin)?);
-            framed(number(room)?, |out| ffi::emit(shape, mem, cell, bank, bin, out))
+            filled(number(room)?, |out| ffi::emit(shape, mem, cell, bank, bin, out))
         }
         ["reading", "-", cell, lag, loss] => reading(shape, mem, number(cell)?, number(lag)?, number(loss)?),
         ["forecast", "-", cell] => {
             told(ffi::forecast(shape, mem, number(cell)?), |ticks| format!("0 {ticks} {ticks}"))
         }
+        ["page", room] => filled(number(room)?, |out| ffi::page(shape, mem, out)),
         ["read", lags, frame] => read(number(lags)?, &bytes(frame)?),
         ["part", lags, frame] => part(number(lags)?, &bytes(frame)?),
         ["norm", lags, lag, frame] => norm(number(lags)?, number(lag)?, &bytes(frame)?),

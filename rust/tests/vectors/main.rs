@@ -1,4 +1,4 @@
-//! A list of calls with their answers, worked out from document 01 and the requests up to 2026-02 apart from this
+//! A list of calls with their answers, worked out from document 01 and the requests up to 2026-03 apart from this
 //! project, through the C interface.
 //!
 //! A line is `CALL ARGS = ANSWER`: decimal numbers, hexadecimal buffers, `-` for no bytes and for an argument that
@@ -14,6 +14,7 @@
 //! emit - CELL BANK BIN ROOM = 0 LENGTH HEX
 //! reading - CELL LAG LOSS = 0 I Q TICKS EDGE CENTRE
 //! forecast - CELL = 0 LOW HIGH                 both are the answer
+//! page ROOM = 0 LENGTH HEX
 //! read N HEX = 0 KIND CELL BLOCK BIN BANK TICKS CENTRE EDGE W5 W6
 //! part N HEX = OFFSET LENGTH                   0 0 for the empty part
 //! norm N LAG HEX = 0 nodata, or 0 RE IM        bits of f64
@@ -33,26 +34,27 @@ mod words;
 
 use std::collections::BTreeMap;
 
-const LIST: &str = include_str!("level-02.txt");
-const LEVEL: u32 = 2;
+const LIST: &str = include_str!("level-03.txt");
+const LEVEL: u32 = 3;
 
 /// How many lines of each kind the list has.
-const LINES: [(&str, usize); 15] = [
-    ("@", 13),
+const LINES: [(&str, usize); 16] = [
+    ("@", 14),
     ("bound", 1),
-    ("dump", 88),
-    ("emit", 81),
+    ("dump", 141),
+    ("emit", 44),
     ("end", 1),
-    ("forecast", 23),
-    ("integrate", 93),
+    ("forecast", 19),
+    ("integrate", 109),
     ("level", 1),
-    ("norm", 6),
-    ("part", 6),
-    ("read", 6),
-    ("reading", 64),
-    ("setup", 1),
+    ("norm", 4),
+    ("page", 6),
+    ("part", 4),
+    ("read", 4),
+    ("reading", 57),
+    ("setup", 2),
     ("shape", 1),
-    ("tick", 187),
+    ("tick", 161),
 ];
 
 #[test]

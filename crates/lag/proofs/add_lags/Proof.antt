@@ -6,10 +6,10 @@ use native.Mathlib.Omega.{arith}
 use lib.ListN.{length}
 use denote.Ref.{now}
 use borrow.Author.Needs.{needs}
+use Rattle.lta_spec.proofs.WordLaws.{take-splice}
 use Rattle.lag_registers.proofs.Loops.{getD-front}
 use Rattle.lag_terms.specs.Terms.{lagTerms}
 use Rattle.lag_terms.proofs.TermLaws.{length-lagTerms}
-use Rattle.lag.proofs.Loops.{take-front}
 use Rattle.lag.proofs.add_lags.Statement.{statement}
 use Rattle.lag.proofs.add_lags.Tie as tie
 
@@ -47,7 +47,7 @@ returns c =
     let ts : List ℕ = lagTerms (now (a .xs)) (now (a .ys)) (a .h) in
     let lt : length ts ≡ 4 * a .h = length-lagTerms (now (a .xs)) (now (a .ys)) (a .h) in
     c .before .before .add-terms .ensures
-    ∙ rw (t .put-lags .ensures, take-front (now (a .terms)) ts (4 * a .h) lt (omega arith))
+    ∙ rw (t .put-lags .ensures, take-splice (now (a .terms)) ts (4 * a .h) lt (omega arith))
 
 pub add-lags-spec : {M : Type 1} → statement M
 add-lags-spec =

@@ -16,8 +16,8 @@ spans-requires c κs = search needs
 loop-holds : tie.Need-loop-holds Inv-loop μ-loop
 loop-holds c = search needs
 
-place-requires : tie.Need-place-requires Inv-loop μ-loop
-place-requires c κs = search needs
+in-set-requires : tie.Need-in-set-requires Inv-loop μ-loop
+in-set-requires c κs = search needs
 
 end-requires : tie.Need-end-requires Inv-loop μ-loop
 end-requires c κs = search needs
@@ -51,7 +51,7 @@ members-spec =
     μ-loop
     spans-requires
     loop-holds
-    place-requires
+    in-set-requires
     end-requires
     first-requires
     less-requires

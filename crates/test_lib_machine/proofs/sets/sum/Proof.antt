@@ -16,8 +16,8 @@ spans-requires c κs = search needs
 loop-holds : tie.Need-loop-holds Inv-loop μ-loop
 loop-holds c = search needs
 
-place-requires : tie.Need-place-requires Inv-loop μ-loop
-place-requires c κs = search needs
+in-set-requires : tie.Need-in-set-requires Inv-loop μ-loop
+in-set-requires c κs = search needs
 
 span-sum-requires : tie.Need-span-sum-requires Inv-loop μ-loop
 span-sum-requires c κs = search needs
@@ -45,7 +45,7 @@ sum-spec =
     μ-loop
     spans-requires
     loop-holds
-    place-requires
+    in-set-requires
     span-sum-requires
     wrapping-add-u64-requires
     add-j

@@ -5,10 +5,10 @@ use Rattle.test_lib_memory.proofs.due.cells_bad.Statement.{statement}
 use Rattle.test_lib_memory.proofs.due.cells_bad.Tie as tie
 
 abbrev Inv-loop : tie.InvT-loop
-Inv-loop mem n b cells bad₀ c₀ bad c = Unit {0}
+Inv-loop mem n b cells kind bad₀ c₀ bad c = Unit {0}
 
 abbrev μ-loop : tie.MeasureT-loop
-μ-loop mem n b cells bad₀ c₀ bad c = cells - c
+μ-loop mem n b cells kind bad₀ c₀ bad c = cells - c
 
 loop-holds : tie.Need-loop-holds Inv-loop μ-loop
 loop-holds c = search needs
@@ -19,8 +19,8 @@ cell-of-requires c κs = search needs
 get-requires : tie.Need-get-requires Inv-loop μ-loop
 get-requires c κs = search needs
 
-cell-bad-requires : tie.Need-cell-bad-requires Inv-loop μ-loop
-cell-bad-requires c κs = search needs
+tested-bad-requires : tie.Need-tested-bad-requires Inv-loop μ-loop
+tested-bad-requires c κs = search needs
 
 add-c : tie.Need-add-c Inv-loop μ-loop
 add-c c = search needs
@@ -43,7 +43,7 @@ cells-bad-spec =
     loop-holds
     cell-of-requires
     get-requires
-    cell-bad-requires
+    tested-bad-requires
     add-c
     loop-less
     loop-again

@@ -1,0 +1,2 @@
+-- Laws of a page of a run.
+pub mod PageRunLaws

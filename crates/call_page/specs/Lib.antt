@@ -1,0 +1,2 @@
+-- What a page that is not refused finds.
+pub mod Pages

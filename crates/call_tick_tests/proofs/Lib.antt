@@ -1,2 +1,0 @@
--- Laws of the tests of a tick.
-pub mod UnitsLaws

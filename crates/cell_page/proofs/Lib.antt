@@ -1,0 +1,2 @@
+-- Laws of a cell on a page.
+pub mod PageCellLaws

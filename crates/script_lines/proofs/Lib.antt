@@ -1,0 +1,4 @@
+-- Laws of bytes put one behind the other, of fields, and of how long lines are.
+pub mod PutLaws
+pub mod FieldLaws
+pub mod LengthLaws

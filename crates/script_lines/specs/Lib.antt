@@ -1,0 +1,2 @@
+-- The lines that a script prints.
+pub mod Lines
