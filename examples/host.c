@@ -1,5 +1,6 @@
-/* A run from C: two aerials see the same noise, one of them two ticks later, and a lag stands out. Then more
- * ticks come than an Open takes, and dumps planned by the forecast keep all of them. A loss page ends it.
+/* A run from C: two aerials see the same noise, one of them two ticks later, and a lag stands out. A speed dump shows
+ * what is open. Then more ticks come than an Open takes, and dumps planned by the forecast keep all of them. A loss
+ * page ends it.
  *
  *   cc -std=c99 -Wall -Wextra -Werror -Iinclude examples/host.c target/staticlib/liblta_c.a -o target/host
  */
@@ -10,7 +11,7 @@
 
 #include "lta.h"
 
-enum { CELLS = 2, LAGS = 16, DELAY = 2, DISCARDED = 100, TICKS = 4000, LONG = 600000, GROUP = 1000 };
+enum { CELLS = 2, LAGS = 16, DELAY = 2, DISCARDED = 100, TICKS = 4000, GLANCE = 500, LONG = 600000, GROUP = 1000 };
 
 static const uint64_t shape[LTA_SHAPE_LEN] = {
     [LTA_SHAPE_CELLS] = CELLS, [LTA_SHAPE_LAGS] = LAGS, [LTA_SHAPE_BINS] = 4,      [LTA_SHAPE_BLOCKS] = 1,
@@ -62,7 +63,7 @@ static void feed(int ticks) {
 
 /* What is open goes to bin 0. */
 static void keep(uint64_t cell, uint64_t command) {
-    uint64_t result = lta_dump(shape, LTA_SHAPE_LEN, mem, words, cell, command, 0, 0);
+    uint64_t result = lta_dump(shape, LTA_SHAPE_LEN, mem, words, cell, command, 0, 0, NULL, 0);
     expect("what was open is held", accepted("a dump", result) == LTA_MOVED_KEPT);
     result = lta_integrate(shape, LTA_SHAPE_LEN, mem, words, cell);
     expect("it is kept", accepted("an integration", result) == LTA_MOVED_KEPT);
@@ -87,16 +88,38 @@ static void show_lags(const uint8_t *frame, size_t length) {
     expect("the lag of the delay", peak - LAGS / 2 == DELAY);
 }
 
+/* The header of a frame of that kind; answers its ticks. */
+static uint32_t show_head(const uint8_t *frame, size_t length, uint32_t kind) {
+    uint32_t head[LTA_HEAD_LEN];
+    accepted("reading the frame", lta_read_frame(LAGS, frame, length, head, LTA_HEAD_LEN));
+    expect("the kind of the frame", head[LTA_HEAD_KIND] == kind);
+    printf("cell %" PRIu32 ": %" PRIu32 " ticks, %" PRIu32 " valid at the centre, second %" PRIu32 "\n",
+           head[LTA_HEAD_CELL], head[LTA_HEAD_TICKS], head[LTA_HEAD_CENTRE], head[LTA_HEAD_SECOND]);
+    return head[LTA_HEAD_TICKS];
+}
+
 static void show_frame(uint64_t cell) {
     uint8_t frame[LTA_FRAME_LEN(LAGS)];
-    uint32_t head[LTA_HEAD_LEN];
     uint64_t result = lta_emit(shape, LTA_SHAPE_LEN, mem, words, cell, 0, 0, frame, sizeof frame);
     uint32_t length = accepted("an emission", result);
     expect("the length of a frame", length == sizeof frame);
-    accepted("reading the frame", lta_read_frame(LAGS, frame, length, head, LTA_HEAD_LEN));
-    printf("cell %" PRIu32 ": %" PRIu32 " ticks, %" PRIu32 " valid at the centre, second %" PRIu32 "\n",
-           head[LTA_HEAD_CELL], head[LTA_HEAD_TICKS], head[LTA_HEAD_CENTRE], head[LTA_HEAD_SECOND]);
+    expect("the ticks of the bin", show_head(frame, length, LTA_KIND_ACCUMULATED) == TICKS);
     show_lags(frame, length);
+}
+
+/* What is open, as a speed frame: it is neither held nor put into a bin. */
+static void show_speed(uint64_t cell) {
+    uint8_t frame[LTA_SPEED_FRAME_LEN(LAGS)];
+    uint64_t result =
+        lta_dump(shape, LTA_SHAPE_LEN, mem, words, cell, LTA_COMMAND_SPEED, 0, 0, frame, sizeof frame);
+    uint32_t length = accepted("a speed dump", result);
+    expect("the length of a speed frame", length == sizeof frame);
+    printf("a speed dump: ");
+    expect("the ticks that were open", show_head(frame, length, LTA_KIND_SPEED) == GLANCE);
+    uint64_t part = lta_lag_part(LAGS, frame, length);
+    uint32_t start = LTA_PART_START(part), bytes = LTA_PART_LEN(part);
+    printf("  its lag pairs are %" PRIu32 " bytes from byte %" PRIu32 " on\n", bytes, start);
+    expect("only the last word is behind the lag pairs", start + bytes + 4 == length);
 }
 
 /* A loss at the centre lag. */
@@ -162,7 +185,7 @@ int main(void) {
     accepted("setup", lta_setup(shape, LTA_SHAPE_LEN, mem, words));
     feed(DISCARDED);
     for (uint64_t cell = 0; cell < CELLS; cell++) {
-        uint64_t result = lta_dump(shape, LTA_SHAPE_LEN, mem, words, cell, LTA_COMMAND_DISCARD, 0, 0);
+        uint64_t result = lta_dump(shape, LTA_SHAPE_LEN, mem, words, cell, LTA_COMMAND_DISCARD, 0, 0, NULL, 0);
         expect("what was open goes to loss 1", accepted("a dump", result) == LTA_LOSS_ORDERED);
     }
     feed(TICKS);
@@ -174,6 +197,8 @@ int main(void) {
     uint32_t refusal = LTA_REFUSAL(lta_integrate(shape, LTA_SHAPE_LEN, mem, words, 0));
     printf("an integration with nothing held is refused by %" PRIu32 "\n", refusal);
     expect("refusal 8", refusal == LTA_REFUSAL_NOTHING_HELD);
+    feed(GLANCE);
+    show_speed(0);
     plan();
     show_page();
     free(mem);

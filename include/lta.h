@@ -34,7 +34,7 @@ extern "C" {
 #endif
 
 #define LTA_VERSION_MAJOR 0
-#define LTA_VERSION_MINOR 3
+#define LTA_VERSION_MINOR 4
 #define LTA_VERSION_PATCH 0
 #define LTA_VERSION (LTA_VERSION_MAJOR * 1000000 + LTA_VERSION_MINOR * 1000 + LTA_VERSION_PATCH)
 
@@ -50,7 +50,7 @@ enum lta_refusal {
     LTA_REFUSAL_WRONG_SAMPLES = 3, /* not 2C bytes */
     LTA_REFUSAL_RUN_FULL = 4,      /* the run has had 2,147,483,648 ticks */
     LTA_REFUSAL_NO_CELL = 5,       /* no such cell */
-    LTA_REFUSAL_BAD_COMMAND = 6,   /* command 3, 5, 6 or above 7 */
+    LTA_REFUSAL_BAD_COMMAND = 6,   /* command 5, 6 or above 7 */
     LTA_REFUSAL_NO_BIN = 7,        /* bank not 0 or 1, (phase + 1) * M above B, or a data bin not below B */
     LTA_REFUSAL_NOTHING_HELD = 8,  /* Held unoccupied */
     LTA_REFUSAL_NOT_READY = 9,     /* bin not Ready */
@@ -61,7 +61,8 @@ enum lta_refusal {
     LTA_REFUSAL_WRONG_MARK = 14,   /* a frame with the wrong mark */
     LTA_REFUSAL_WRONG_SUM = 15,    /* a frame with the wrong last word */
     LTA_REFUSAL_BAD_FIELD = 16,    /* a field of a frame breaks its rule */
-    LTA_REFUSAL_BAD_RECORD = 17    /* of scripts alone: unknown mark or a cut record */
+    LTA_REFUSAL_BAD_RECORD = 17,   /* of scripts alone: unknown mark or a cut record */
+    LTA_REFUSAL_WRONG_BIAS = 18    /* a speed frame with the wrong DATA_BIAS */
 };
 
 /* A shape is seven numbers, in this order: C, N, B, M, S, R, Z. */
@@ -78,16 +79,17 @@ enum lta_shape {
 #define LTA_CELLS_MOST 16
 #define LTA_LAGS_MOST 128
 
-/* The commands of a dump; what they do to the cell's block stands with lta_dump. */
+/* The commands of a dump; what they do to the cell's block and to the buffer lent stands with lta_dump. */
 enum lta_command {
     LTA_COMMAND_SAVE = 0,    /* 000: hold what is open, to replace what its bin has */
     LTA_COMMAND_ADD = 1,     /* 001: hold what is open, to join its bin */
     LTA_COMMAND_LAST = 2,    /* 010: hold what is open, to join its bin and make it Ready */
+    LTA_COMMAND_SPEED = 3,   /* 011: what is open leaves as a speed frame */
     LTA_COMMAND_DISCARD = 4, /* 100: what is open goes to loss 1 */
     LTA_COMMAND_IDLE = 7     /* 111: nothing */
 };
 
-/* The answers of a dump or an integration besides the losses. */
+/* The answers of a dump or an integration besides the losses and the length of a speed frame. */
 enum lta_moved {
     LTA_MOVED_KEPT = 0, /* the set is kept */
     LTA_MOVED_IDLE = 7  /* command 7: nothing was to do */
@@ -96,7 +98,7 @@ enum lta_moved {
 /* The losses of a cell; of them a dump or an integration answers the one that took a set. */
 enum lta_loss {
     LTA_LOSS_ORDERED = 1,  /* discarded by command 4 */
-    LTA_LOSS_OVERRUN = 2,  /* dumped while Held was occupied */
+    LTA_LOSS_OVERRUN = 2,  /* dumped by command 0, 1 or 2 while Held was occupied */
     LTA_LOSS_FULL = 3,     /* integrated into a Ready bin */
     LTA_LOSS_REPLACED = 4, /* replaced in its bin by command 0 */
     LTA_LOSS_WIDE = 5,     /* the joint set would have had more than 16,777,215 ticks */
@@ -113,10 +115,16 @@ enum lta_counts { LTA_COUNTS_TICKS = 0, LTA_COUNTS_EDGE = 1, LTA_COUNTS_CENTRE =
 #define LTA_PAGE_LINE_LEN 41
 #define LTA_PAGE_LEN(cells) (LTA_PAGE_LINE_LEN * (6 * (cells) + 1))
 
+/* The kinds of frame. */
+enum lta_kind {
+    LTA_KIND_ACCUMULATED = 2, /* of a bin, by lta_emit */
+    LTA_KIND_SPEED = 3        /* a speed frame: of what is open, by lta_dump with command 3 */
+};
+
 /* The fields of a frame's header. */
 #define LTA_HEAD_LEN 10
 enum lta_head {
-    LTA_HEAD_KIND = 0,   /* 2 */
+    LTA_HEAD_KIND = 0,   /* by lta_kind */
     LTA_HEAD_CELL = 1,   /* 0 to 15 */
     LTA_HEAD_BLOCK = 2,  /* Y block, 0 to 255 */
     LTA_HEAD_BIN = 3,    /* data bin, 0 to 999 */
@@ -128,9 +136,14 @@ enum lta_head {
     LTA_HEAD_OFFSET = 9  /* the ticks of the stamp within its second, at most 255,999,999 */
 };
 
-/* The bytes of a frame of so many lags, and where among them the lag pairs start. */
+/* The bytes of a frame of so many lags, and of a speed frame. A speed frame has one word more ahead of its lag pairs,
+ * DATA_BIAS, which is 98 * its ticks. It is already taken off them: the pairs of both kinds are plain signed sums. */
 #define LTA_FRAME_LEN(lags) (34 + 8 * (lags))
-#define LTA_LAG_PART_START 30
+#define LTA_SPEED_FRAME_LEN(lags) (38 + 8 * (lags))
+
+/* The part of a frame that a result of lta_lag_part tells of: at which byte it starts, and its bytes. */
+#define LTA_PART_START(result) LTA_U32((result) / 65536)
+#define LTA_PART_LEN(result) LTA_U32((result) % 65536)
 
 /* A normalised lag. */
 #define LTA_PAIR_LEN 2
@@ -149,21 +162,28 @@ uint64_t lta_setup(const uint64_t *shape, size_t shape_len, uint64_t *mem, size_
 uint64_t lta_tick(const uint64_t *shape, size_t shape_len, uint64_t *mem, size_t mem_len,
                   const uint8_t *samples, size_t samples_len);
 
-/* A dump of one cell; answers LTA_MOVED_KEPT, LTA_MOVED_IDLE, or loss 1 ordered or 2 overrun.
+/* A dump of one cell; answers LTA_MOVED_KEPT, LTA_MOVED_IDLE, or loss 1 ordered or 2 overrun, and for command 3, a
+ * speed dump, the length of the frame, LTA_SPEED_FRAME_LEN(N).
+ *
+ * Command 3 writes the speed frame of what is open into the front of out, and Open is then empty. It takes no notice
+ * of Held: occupied or not, Held stays as it is, and so do bins and losses. The frame's stamp is the number of ticks
+ * that the run had had at the cell's previous accepted dump other than an idle one, 0 if there was none. Where nothing
+ * is open it is a frame of 0 ticks. The bytes of out behind the frame stay as they are. Every other command leaves all
+ * of out alone, whatever its length, which may be 0.
  *
  * Each cell has a current block, from S to S + M - 1, which its dumps drive. Command 4 returns it to S, and so does
- * command 2 where the cell's last command before it was 0 or 1. Any other command but 7 moves it one on, and from
+ * command 2 where the cell's last command before it was 0, 1 or 3. Any other command but 7 moves it one on, and from
  * S + M - 1 back to S. A cell's first dump but 7 in a fresh run uses S. A dump that goes to a loss moves the block,
  * and counts as a last command, like one that is kept. Command 7 and a refused dump leave the block where it is, and
  * neither counts as a last command.
  *
  * The block after that step is the dump's: what is held is for data bin phase * M + (block - S) of the bank, and that
- * bin's frame has the block as its LTA_HEAD_BLOCK.
+ * bin's frame has the block as its LTA_HEAD_BLOCK. A speed frame has that bank, data bin and block in its own header.
  *
  * Refuses 1, 2, 5: no such cell, 6: bad command, 7: bank not 0 or 1, or (phase + 1) * M above B, 11: damaged memory,
- * the cell's block and last command included. */
+ * the cell's block and last command included, and last, for command 3 alone, 10: buffer shorter than a speed frame. */
 uint64_t lta_dump(const uint64_t *shape, size_t shape_len, uint64_t *mem, size_t mem_len,
-                  uint64_t cell, uint64_t command, uint64_t bank, uint64_t phase);
+                  uint64_t cell, uint64_t command, uint64_t bank, uint64_t phase, uint8_t *out, size_t out_len);
 
 /* An integration of one cell; answers LTA_MOVED_KEPT, or loss 3 full, 4 replaced or 5 wide.
  * Refuses 1, 2, 5, 11, 8: nothing held. */
@@ -193,7 +213,7 @@ uint64_t lta_reading(const uint64_t *shape, size_t shape_len, const uint64_t *me
  *
  *     uint64_t result = lta_forecast(shape, LTA_SHAPE_LEN, mem, words, cell);
  *     if (LTA_REFUSAL(result) == LTA_REFUSAL_NONE && LTA_ANSWER(result) < ticks) {
- *         lta_dump(shape, LTA_SHAPE_LEN, mem, words, cell, LTA_COMMAND_ADD, bank, phase);
+ *         lta_dump(shape, LTA_SHAPE_LEN, mem, words, cell, LTA_COMMAND_ADD, bank, phase, NULL, 0);
  *         lta_integrate(shape, LTA_SHAPE_LEN, mem, words, cell);
  *     }
  *
@@ -223,21 +243,25 @@ uint64_t lta_forecast(const uint64_t *shape, size_t shape_len, const uint64_t *m
 uint64_t lta_page(const uint64_t *shape, size_t shape_len, const uint64_t *mem, size_t mem_len,
                   uint8_t *out, size_t out_len);
 
-/* The fields of a frame of so many lags into head, by lta_head; answers 0.
- * Refuses 1, 13: wrong length, 14: mark, 15: last word, 16: a field rule, and last 10: fewer than 10 numbers. */
+/* The fields of a frame of so many lags, of either kind, into head, by lta_head; answers 0.
+ * Refuses 1, 13: the length of neither kind, 14: mark, 15: last word, 16: a field rule, or a kind that is not the one
+ * of that length, 18: a speed frame's DATA_BIAS is not 98 * its ticks, and last 10: fewer than 10 numbers. */
 uint64_t lta_read_frame(uint64_t lags, const uint8_t *bytes, size_t bytes_len, uint32_t *head, size_t head_len);
 
-/* The length of the part of a frame that holds its lag pairs; the part starts at byte LTA_LAG_PART_START.
+/* The part of a frame that holds its lag pairs. LTA_PART_START of the result is the byte at which it starts, counted
+ * from 0: 30, in a speed frame 34. LTA_PART_LEN of the result is its length, 8N.
  * Refuses nothing: 0, the empty part, where the reader refuses. */
 uint64_t lta_lag_part(uint64_t lags, const uint8_t *bytes, size_t bytes_len);
 
-/* The frame of ten fields, by lta_head, and 2N lag numbers, I and Q in turn; answers its length.
- * Refuses 1, 16: a field rule, not ten fields or not 2N numbers, 10: buffer shorter than a frame. */
+/* The frame of ten fields, by lta_head, and 2N lag numbers, I and Q in turn; answers its length. It is of the kind that
+ * its first field names. A speed frame's DATA_BIAS is no field: it is worked out.
+ * Refuses 1, 16: a field rule, a kind that is none, not ten fields or not 2N numbers, 10: buffer shorter than a frame
+ * of that kind. */
 uint64_t lta_write_frame(uint64_t lags, const uint32_t *head, size_t head_len,
                          const int32_t *numbers, size_t numbers_len, uint8_t *out, size_t out_len);
 
 /* One lag of a frame by its centre count into pair, by lta_pair; answers 1, or 0 where there is no data.
- * Refuses 1, 13, 14, 15, 16, 12: no such lag, and last 10: pair has fewer than 2 numbers. */
+ * Refuses 1, 13, 14, 15, 16, 18, 12: no such lag, and last 10: pair has fewer than 2 numbers. */
 uint64_t lta_normalised_lag(uint64_t lags, const uint8_t *bytes, size_t bytes_len, uint64_t lag,
                             double *pair, size_t pair_len);
 

@@ -10,15 +10,19 @@ typedef char a_shape_has_so_many[LTA_SHAPE_SECOND + 1 == LTA_SHAPE_LEN ? 1 : -1]
 typedef char a_header_has_so_many[LTA_HEAD_OFFSET + 1 == LTA_HEAD_LEN ? 1 : -1];
 typedef char a_reading_has_so_many[LTA_SUMS_Q + 1 == LTA_SUMS_LEN && LTA_COUNTS_CENTRE + 1 == LTA_COUNTS_LEN ? 1 : -1];
 typedef char the_longest_frame[LTA_FRAME_LEN(LTA_LAGS_MOST) == 1058 ? 1 : -1];
+typedef char the_longest_speed_frame[LTA_SPEED_FRAME_LEN(LTA_LAGS_MOST) == 1062 ? 1 : -1];
+typedef char a_part_has_a_start[LTA_PART_START(34 * 65536 + 1024) == 34 ? 1 : -1];
+typedef char a_part_has_a_length[LTA_PART_LEN(34 * 65536 + 1024) == 1024 ? 1 : -1];
 typedef char the_longest_page[LTA_PAGE_LEN(LTA_CELLS_MOST) == 3977 ? 1 : -1];
 
 int discard(const uint64_t *shape, uint64_t *mem, size_t words, uint64_t cell);
 size_t frame_of(const uint64_t *shape, uint64_t *mem, size_t words, uint8_t *out);
 size_t page_of(const uint64_t *shape, const uint64_t *mem, size_t words, uint8_t *out);
+const uint8_t *pairs_of(const uint64_t *shape, uint64_t *mem, size_t words, uint8_t *out, size_t *length);
 
 /* 1 where what was open went to loss 1, 0 where it did not, and else the refusal, negative. */
 int discard(const uint64_t *shape, uint64_t *mem, size_t words, uint64_t cell) {
-    uint64_t result = lta_dump(shape, LTA_SHAPE_LEN, mem, words, cell, LTA_COMMAND_DISCARD, 0, 0);
+    uint64_t result = lta_dump(shape, LTA_SHAPE_LEN, mem, words, cell, LTA_COMMAND_DISCARD, 0, 0, NULL, 0);
     switch (LTA_REFUSAL(result)) {
     case LTA_REFUSAL_NONE:
         return LTA_ANSWER(result) == LTA_LOSS_ORDERED;
@@ -41,4 +45,13 @@ size_t page_of(const uint64_t *shape, const uint64_t *mem, size_t words, uint8_t
     size_t room = LTA_PAGE_LEN(shape[LTA_SHAPE_CELLS]);
     uint64_t result = lta_page(shape, LTA_SHAPE_LEN, mem, words, out, room);
     return LTA_REFUSAL(result) == LTA_REFUSAL_NONE && LTA_ANSWER(result) == room ? room : 0;
+}
+
+/* The lag pairs of a speed frame of the first cell and their length, 0 where there is none. */
+const uint8_t *pairs_of(const uint64_t *shape, uint64_t *mem, size_t words, uint8_t *out, size_t *length) {
+    size_t room = LTA_SPEED_FRAME_LEN(shape[LTA_SHAPE_LAGS]);
+    uint64_t result = lta_dump(shape, LTA_SHAPE_LEN, mem, words, 0, LTA_COMMAND_SPEED, 0, 0, out, room);
+    uint64_t part = lta_lag_part(shape[LTA_SHAPE_LAGS], out, LTA_ANSWER(result));
+    *length = LTA_PART_LEN(part);
+    return out + LTA_PART_START(part);
 }

@@ -1,9 +1,10 @@
 //! Both engines get the same calls and must give the same answers, before anything is timed.
 use std::fmt::Debug;
 
-use lta::Shape;
+use lta::{Command, Shape};
 
 use crate::engine::{Engine, Peer, Proved};
+use crate::peer::frame::{length, ACCUMULATOR, SPEED};
 use crate::samples::Noise;
 
 const CALLS: u64 = 20_000;
@@ -25,6 +26,14 @@ fn same<T: PartialEq + Debug>(what: &str, proved: T, peer: T) {
     assert_eq!(proved, peer, "{what}: the proved engine and the peer");
 }
 
+/// Makes the last word the sum of those before it.
+fn mend(frame: &mut [u8]) {
+    let (body, last) = frame.split_at_mut(frame.len() - 4);
+    let word = |part: &[u8]| u32::from_le_bytes([part[0], part[1], part[2], part[3]]);
+    let sum = body[2..].chunks_exact(4).map(word).fold(0, u32::wrapping_add);
+    last.copy_from_slice(&sum.to_le_bytes());
+}
+
 impl Pair {
     fn new(shape: Shape, seed: u64) -> Pair {
         Pair { shape, proved: Proved::new(shape), peer: Peer::new(shape), noise: Noise::new(seed), calls: 0 }
@@ -41,6 +50,18 @@ impl Pair {
         }
     }
 
+    /// A dump with a buffer that is as long as a speed frame, or at times one byte shorter.
+    fn dump(&mut self, cell: u64, command: u64, bank: u64, phase: u64) {
+        let length = length(SPEED, self.shape.lags) - self.noise.below(8).saturating_sub(6) as usize;
+        let (mut one, mut other) = (vec![0; length], vec![0; length]);
+        let dumped = self.proved.dump(cell, command, bank, phase, &mut one);
+        same("dump", dumped, self.peer.dump(cell, command, bank, phase, &mut other));
+        same("speed frame", &one, &other);
+        if command == Command::Speed as u64 && dumped.is_ok() {
+            self.frame(&mut one);
+        }
+    }
+
     /// A page in a buffer with room for two bytes more, or at times for one more, none more or one less.
     fn page(&mut self) {
         let length = self.shape.page_length() + 2 - self.noise.below(16).saturating_sub(12) as usize;
@@ -49,18 +70,25 @@ impl Pair {
         same("lines", String::from_utf8_lossy(&one), String::from_utf8_lossy(&other));
     }
 
-    /// The frame calls, on a frame as it is or with one bit changed.
+    /// The frame calls, on a frame as it is or with one bit changed, the last word then mended or not.
     fn frame(&mut self, bytes: &mut [u8]) {
         if self.noise.below(2) == 0 {
             bytes[self.noise.below(bytes.len() as u64) as usize] ^= 1 << self.noise.below(8);
+        }
+        if self.noise.below(2) == 0 {
+            mend(bytes);
         }
         let lags = self.shape.lags;
         let fields = Proved::read_frame(lags, bytes);
         same("read", fields, Peer::read_frame(lags, bytes));
         if let Ok(mut fields) = fields {
             fields.bin += 999 * u32::from(self.noise.below(4) == 0);
+            let kinds = [fields.kind, fields.kind, ACCUMULATOR, SPEED, SPEED + 1];
+            fields.kind = kinds[self.noise.below(5) as usize];
             let number = |part: &[u8]| i32::from_le_bytes([part[0], part[1], part[2], part[3]]);
-            let numbers: Vec<i32> = bytes[30..bytes.len() - 4].chunks_exact(4).map(number).collect();
+            let end = bytes.len() - 4;
+            let pairs = &bytes[end - 8 * lags as usize..end];
+            let numbers: Vec<i32> = pairs.chunks_exact(4).map(number).collect();
             let (mut one, mut other) = (vec![0; bytes.len()], vec![0; bytes.len()]);
             let proved = Proved::write_frame(lags, &fields, &numbers, &mut one);
             same("write", proved, Peer::write_frame(lags, &fields, &numbers, &mut other));
@@ -81,10 +109,7 @@ impl Pair {
                 let samples = noise.samples(2 * s.cells as usize - short);
                 same("tick", self.proved.tick(&samples), self.peer.tick(&samples));
             }
-            8..=10 => {
-                let proved = self.proved.dump(cell, command, bank, phase);
-                same("dump", proved, self.peer.dump(cell, command, bank, phase));
-            }
+            8..=10 => self.dump(cell, command, bank, phase),
             11..=12 => same("integrate", self.proved.integrate(cell), self.peer.integrate(cell)),
             13 => self.emit(cell, bank, phase * s.blocks + offset),
             14 => same("reading", self.proved.reading(cell, lag, loss), self.peer.reading(cell, lag, loss)),

@@ -1,5 +1,5 @@
 //! One interface to both engines, so that one text drives and times them.
-use lta::{ffi, Command, Fields, Moved, Refusal, Shape, Sums};
+use lta::{ffi, Command, Fields, Refusal, Shape, Sums};
 
 use crate::peer;
 
@@ -7,7 +7,14 @@ pub trait Engine: Sized {
     const NAME: &'static str;
     fn new(shape: Shape) -> Self;
     fn tick(&mut self, samples: &[u8]) -> Result<u32, Refusal>;
-    fn dump(&mut self, cell: u64, command: u64, bank: u64, phase: u64) -> Result<u32, Refusal>;
+    fn dump(
+        &mut self,
+        cell: u64,
+        command: u64,
+        bank: u64,
+        phase: u64,
+        out: &mut [u8],
+    ) -> Result<u32, Refusal>;
     fn integrate(&mut self, cell: u64) -> Result<u32, Refusal>;
     fn emit(&mut self, cell: u64, bank: u64, bin: u64, out: &mut [u8]) -> Result<usize, Refusal>;
     fn reading(&self, cell: u64, lag: u64, loss: u64) -> Result<Sums, Refusal>;
@@ -23,7 +30,7 @@ pub trait Engine: Sized {
 
     fn discard(&mut self, shape: &Shape) {
         for cell in 0..shape.cells {
-            self.dump(cell, Command::Discard as u64, 0, 0).expect("a discard");
+            self.dump(cell, Command::Discard as u64, 0, 0, &mut []).expect("a discard");
         }
     }
 
@@ -60,8 +67,15 @@ impl Engine for Proved {
         ffi::outcome(ffi::tick(&self.shape, &mut self.words, samples))
     }
 
-    fn dump(&mut self, cell: u64, command: u64, bank: u64, phase: u64) -> Result<u32, Refusal> {
-        ffi::outcome(ffi::dump(&self.shape, &mut self.words, cell, command, bank, phase))
+    fn dump(
+        &mut self,
+        cell: u64,
+        command: u64,
+        bank: u64,
+        phase: u64,
+        out: &mut [u8],
+    ) -> Result<u32, Refusal> {
+        ffi::outcome(ffi::dump(&self.shape, &mut self.words, cell, command, bank, phase, out))
     }
 
     fn integrate(&mut self, cell: u64) -> Result<u32, Refusal> {
@@ -121,14 +135,6 @@ pub struct Peer {
     words: Vec<i64>,
 }
 
-fn number(moved: Moved) -> u32 {
-    match moved {
-        Moved::Kept => 0,
-        Moved::Lost(loss) => loss.number(),
-        Moved::Idle => 7,
-    }
-}
-
 impl Engine for Peer {
     const NAME: &'static str = "peer";
 
@@ -142,12 +148,19 @@ impl Engine for Peer {
         peer::tick(&self.shape, &mut self.words, samples)
     }
 
-    fn dump(&mut self, cell: u64, command: u64, bank: u64, phase: u64) -> Result<u32, Refusal> {
-        peer::dump(&self.shape, &mut self.words, cell, command, bank, phase).map(number)
+    fn dump(
+        &mut self,
+        cell: u64,
+        command: u64,
+        bank: u64,
+        phase: u64,
+        out: &mut [u8],
+    ) -> Result<u32, Refusal> {
+        peer::dump(&self.shape, &mut self.words, cell, command, bank, phase, out)
     }
 
     fn integrate(&mut self, cell: u64) -> Result<u32, Refusal> {
-        peer::integrate(&self.shape, &mut self.words, cell).map(number)
+        peer::integrate(&self.shape, &mut self.words, cell)
     }
 
     fn emit(&mut self, cell: u64, bank: u64, bin: u64, out: &mut [u8]) -> Result<usize, Refusal> {

@@ -13,6 +13,7 @@ use std::process::ExitCode;
 use lta::Shape;
 
 use engine::{Engine, Peer, Proved};
+use peer::frame::{length, ACCUMULATOR, SPEED};
 use table::Table;
 
 fn shape(cells: u64, lags: u64, bins: u64) -> Shape {
@@ -33,9 +34,12 @@ fn whole_calls(table: &mut Table) -> io::Result<()> {
         let blocks = timing::page(shape(16, lags, 1));
         table.row(&format!("page C=16 N={lags}"), "us", &blocks, |ns| ns / 1e3)?;
     }
-    let bytes = shape(1, 128, 1).frame_length() as f64;
-    table.row("frame read N=128", "MB/s", &timing::read(128), |ns| 1000.0 * bytes / ns)?;
-    table.row("frame write N=128", "MB/s", &timing::write(128), |ns| 1000.0 * bytes / ns)
+    for (name, kind) in [("frame", ACCUMULATOR), ("speed frame", SPEED)] {
+        let speed = |ns| 1000.0 * length(kind, 128) as f64 / ns;
+        table.row(&format!("{name} read N=128"), "MB/s", &timing::read(kind, 128), speed)?;
+        table.row(&format!("{name} write N=128"), "MB/s", &timing::write(kind, 128), speed)?;
+    }
+    Ok(())
 }
 
 /// A tick's cost by lags and cells, and by lags alone.

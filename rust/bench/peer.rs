@@ -7,7 +7,7 @@ mod layout;
 mod page;
 mod row;
 
-use lta::{Moved, Refusal, Shape, Sums};
+use lta::{Refusal, Shape, Sums};
 
 use cell::{Cell, CellRef};
 use layout::Layout;
@@ -24,6 +24,7 @@ const READY: i64 = 2;
 const SAVE: u64 = 0b000;
 const ADD: u64 = 0b001;
 const LAST: u64 = 0b010;
+const SPEED: u64 = 0b011;
 const DISCARD: u64 = 0b100;
 const IDLE: u64 = 0b111;
 
@@ -103,7 +104,8 @@ fn bin_rule_ok(s: &Shape, bank: u64, phase: u64) -> bool {
     bank < 2 && phase < s.bins / s.blocks
 }
 
-/// A dump of one cell.
+/// A dump of one cell; answers the loss, 0 if the set is kept and 7 if there was nothing to do. A speed dump writes its
+/// frame into the front of out and answers the frame's length.
 #[inline(never)]
 pub fn dump(
     shape: &Shape,
@@ -112,21 +114,30 @@ pub fn dump(
     command: u64,
     bank: u64,
     phase: u64,
-) -> Result<Moved, Refusal> {
+    out: &mut [u8],
+) -> Result<u32, Refusal> {
     let layout = host(shape, mem.len())?;
     let part = part(shape, &layout, cell)?;
-    check(matches!(command, SAVE..=LAST | DISCARD | IDLE), Refusal::BadCommand)?;
+    check(matches!(command, SAVE..=SPEED | DISCARD | IDLE), Refusal::BadCommand)?;
     check(bin_rule_ok(shape, bank, phase), Refusal::NoBin)?;
     let t = mem[0];
     let words = &mut mem[part];
     let sound = (0..=RUN_LIMIT).contains(&t) && CellRef { layout, words }.dump_ok(t, command);
     check(sound, Refusal::Damaged)?;
-    Ok(Cell { layout, words }.dump(t, command, bank, phase))
+    let mut unit = Cell { layout, words };
+    if command != SPEED {
+        return Ok(unit.dump(t, command, bank, phase));
+    }
+    let length = frame::length(frame::SPEED, shape.lags);
+    let out = out.get_mut(..length).ok_or(Refusal::ShortBuffer)?;
+    let (bin, stamp) = unit.open_leaves(t, phase);
+    frame::send(out, frame::SPEED, shape, [cell, bank, bin], stamp, &mut unit.words[layout.open()]);
+    Ok(length as u32)
 }
 
-/// An integration of one cell.
+/// An integration of one cell; answers the loss, or 0 if the set is kept.
 #[inline(never)]
-pub fn integrate(shape: &Shape, mem: &mut [i64], cell: u64) -> Result<Moved, Refusal> {
+pub fn integrate(shape: &Shape, mem: &mut [i64], cell: u64) -> Result<u32, Refusal> {
     let layout = host(shape, mem.len())?;
     let part = part(shape, &layout, cell)?;
     let t = mem[0];
@@ -156,13 +167,11 @@ pub fn emit(
     let view = CellRef { layout, words };
     check((0..=RUN_LIMIT).contains(&t) && view.bin_ok(t, number), Refusal::Damaged)?;
     check(words[layout.state(number)] == READY, Refusal::NotReady)?;
-    let length = shape.frame_length();
-    check(out.len() >= length, Refusal::ShortBuffer)?;
+    let length = frame::length(frame::ACCUMULATOR, shape.lags);
+    let out = out.get_mut(..length).ok_or(Refusal::ShortBuffer)?;
     let stamp = words[layout.bin_stamp(number)] as u64;
-    let header = frame::bin_header(shape, cell, bank, bin, stamp, &words[layout.bin_row(number)]);
-    frame::put_frame(&mut out[..length], &header, &words[layout.bin_row(number)][3..]);
+    frame::send(out, frame::ACCUMULATOR, shape, [cell, bank, bin], stamp, &mut words[layout.bin_row(number)]);
     words[layout.state(number)] = FREE;
-    words[layout.bin_row(number)].fill(0);
     Ok(length)
 }
 

@@ -7,6 +7,7 @@ use lta::{Command, Fields, Loss, Shape};
 
 use crate::blocks::{each, in_turn, Blocks};
 use crate::engine::{Engine, Peer, Proved};
+use crate::peer::frame::{length, SPEED};
 use crate::samples::Noise;
 
 const TICKS: usize = 64;
@@ -51,40 +52,46 @@ pub fn each_lag_more(few: Shape, many: Shape) -> Blocks {
 }
 
 /// The calls on one cell that are timed, in the order of their times.
-pub const ON_A_CELL: [&str; 5] = ["dump", "integrate", "emit", "reading", "forecast"];
+pub const ON_A_CELL: [&str; 6] = ["dump", "integrate", "emit", "reading", "forecast", "speed dump"];
 
-/// A tick, then one call of each kind on every cell: the time of each kind.
-fn round<E: Engine>(engine: &mut E, shape: &Shape, samples: &[u8], out: &mut [u8]) -> [Duration; 5] {
-    engine.tick(samples).expect("a tick");
-    let mut time = |work: &mut dyn FnMut(&mut E, u64)| {
-        let start = Instant::now();
-        (0..shape.cells).for_each(|cell| work(engine, cell));
-        start.elapsed()
-    };
-    [
-        time(&mut |engine, cell| {
-            black_box(engine.dump(cell, Command::Last as u64, 0, 0)).expect("a dump");
-        }),
-        time(&mut |engine, cell| {
-            black_box(engine.integrate(cell)).expect("an integration");
-        }),
-        time(&mut |engine, cell| {
-            black_box(engine.emit(cell, 0, 0, out)).expect("an emission");
-        }),
-        time(&mut |engine, cell| {
-            let loss = u64::from(Loss::Ordered.number());
-            black_box(engine.reading(cell, black_box(3), loss)).expect("a reading");
-        }),
-        time(&mut |engine, cell| {
-            black_box(engine.forecast(cell)).expect("a forecast");
-        }),
-    ]
+/// One call on every cell.
+fn time<E: Engine>(engine: &mut E, shape: &Shape, mut work: impl FnMut(&mut E, u64)) -> Duration {
+    let start = Instant::now();
+    (0..shape.cells).for_each(|cell| work(engine, cell));
+    start.elapsed()
 }
 
-fn rounds<E: Engine>(engine: &mut E, shape: &Shape, times: usize) -> [f64; 5] {
-    let mut out = vec![0; shape.frame_length()];
+/// A tick, then one call of each kind on every cell: the time of each kind. Speed dumps have a tick of their own before
+/// them, which is not timed either.
+fn round<E: Engine>(engine: &mut E, shape: &Shape, samples: &[u8], out: &mut [u8]) -> [Duration; 6] {
+    engine.tick(samples).expect("a tick");
+    let dump = time(engine, shape, |engine, cell| {
+        black_box(engine.dump(cell, Command::Last as u64, 0, 0, out)).expect("a dump");
+    });
+    let integrate = time(engine, shape, |engine, cell| {
+        black_box(engine.integrate(cell)).expect("an integration");
+    });
+    let emit = time(engine, shape, |engine, cell| {
+        black_box(engine.emit(cell, 0, 0, out)).expect("an emission");
+    });
+    let reading = time(engine, shape, |engine, cell| {
+        let loss = u64::from(Loss::Ordered.number());
+        black_box(engine.reading(cell, black_box(3), loss)).expect("a reading");
+    });
+    let forecast = time(engine, shape, |engine, cell| {
+        black_box(engine.forecast(cell)).expect("a forecast");
+    });
+    engine.tick(samples).expect("a tick");
+    let speed_dump = time(engine, shape, |engine, cell| {
+        black_box(engine.dump(cell, Command::Speed as u64, 0, 0, out)).expect("a speed dump");
+    });
+    [dump, integrate, emit, reading, forecast, speed_dump]
+}
+
+fn rounds<E: Engine>(engine: &mut E, shape: &Shape, times: usize) -> [f64; 6] {
+    let mut out = vec![0; length(SPEED, shape.lags)];
     let samples = Noise::new(11).samples(2 * shape.cells as usize);
-    let mut spent = [Duration::ZERO; 5];
+    let mut spent = [Duration::ZERO; 6];
     for _ in 0..times {
         let more = round(engine, shape, &samples, &mut out);
         spent = from_fn(|kind| spent[kind] + more[kind]);
@@ -93,7 +100,7 @@ fn rounds<E: Engine>(engine: &mut E, shape: &Shape, times: usize) -> [f64; 5] {
 }
 
 /// One call of each kind of [`ON_A_CELL`].
-pub fn on_a_cell(shape: Shape) -> [Blocks; 5] {
+pub fn on_a_cell(shape: Shape) -> [Blocks; 6] {
     let (mut proved, mut peer) = (Proved::new(shape), Peer::new(shape));
     in_turn(|times| rounds(&mut proved, &shape, times), |times| rounds(&mut peer, &shape, times))
 }
@@ -122,8 +129,8 @@ pub fn page(shape: Shape) -> Blocks {
     blocks
 }
 
-fn fields_of(ticks: u32) -> Fields {
-    Fields { kind: 2, cell: 3, block: 4, bin: 5, ticks, centre: ticks, edge: ticks, ..Fields::default() }
+fn fields_of(kind: u32, ticks: u32) -> Fields {
+    Fields { kind, cell: 3, block: 4, bin: 5, ticks, centre: ticks, edge: ticks, ..Fields::default() }
 }
 
 fn numbers(lags: u64) -> Vec<i32> {
@@ -136,25 +143,25 @@ fn reads<E: Engine>(lags: u64, bytes: &[u8], times: usize) -> [f64; 1] {
     })]
 }
 
-/// One frame read.
-pub fn read(lags: u64) -> Blocks {
-    let mut bytes = vec![0; 34 + 8 * lags as usize];
-    Proved::write_frame(lags, &fields_of(1000), &numbers(lags), &mut bytes).expect("a frame");
+/// One frame of this kind read.
+pub fn read(kind: u32, lags: u64) -> Blocks {
+    let mut bytes = vec![0; length(kind, lags)];
+    Proved::write_frame(lags, &fields_of(kind, 1000), &numbers(lags), &mut bytes).expect("a frame");
     let [blocks] =
         in_turn(|times| reads::<Proved>(lags, &bytes, times), |times| reads::<Peer>(lags, &bytes, times));
     blocks
 }
 
 fn writes<E: Engine>(lags: u64, fields: &Fields, numbers: &[i32], times: usize) -> [f64; 1] {
-    let mut out = vec![0; 34 + 8 * lags as usize];
+    let mut out = vec![0; length(fields.kind, lags)];
     [each(times, |_| {
         black_box(E::write_frame(black_box(lags), fields, numbers, black_box(&mut out))).expect("a frame");
     })]
 }
 
-/// One frame written.
-pub fn write(lags: u64) -> Blocks {
-    let (fields, numbers) = (fields_of(1000), numbers(lags));
+/// One frame of this kind written.
+pub fn write(kind: u32, lags: u64) -> Blocks {
+    let (fields, numbers) = (fields_of(kind, 1000), numbers(lags));
     let [blocks] = in_turn(
         |times| writes::<Proved>(lags, &fields, &numbers, times),
         |times| writes::<Peer>(lags, &fields, &numbers, times),

@@ -28,7 +28,7 @@ use crate::Refusal;
 pub fn outcome(result: u64) -> Result<u32, Refusal> {
     match (result >> 32) as u32 {
         0 => Ok(result as u32),
-        number => Err(Refusal::from_number(number).expect("the engine gives the numbers 1 to 17")),
+        number => Err(Refusal::from_number(number).expect("the engine gives the numbers 1 to 18")),
     }
 }
 
@@ -53,6 +53,8 @@ mod c {
             command: u64,
             bank: u64,
             phase: u64,
+            out: *mut u8,
+            out_len: usize,
         ) -> u64;
         pub fn lta_integrate(
             shape: *const u64,
@@ -148,11 +150,31 @@ pub fn tick(shape: &[u64], mem: &mut [u64], samples: &[u8]) -> u64 {
     }
 }
 
-/// A dump of one cell; answers 0 if kept, 1 ordered, 2 overrun, 7 for command 7.
-pub fn dump(shape: &[u64], mem: &mut [u64], cell: u64, command: u64, bank: u64, phase: u64) -> u64 {
-    // SAFETY: each slice's own pointer and length; mem is lent for this call alone.
+/// A dump of one cell; answers 0 if kept, 1 ordered, 2 overrun, 7 for command 7. Command 3 writes a speed frame into
+/// the front of `out` and answers its length; other commands leave `out` alone, whatever its length.
+pub fn dump(
+    shape: &[u64],
+    mem: &mut [u64],
+    cell: u64,
+    command: u64,
+    bank: u64,
+    phase: u64,
+    out: &mut [u8],
+) -> u64 {
+    // SAFETY: each slice's own pointer and length; mem and out are two, each lent for this call alone.
     unsafe {
-        c::lta_dump(shape.as_ptr(), shape.len(), mem.as_mut_ptr(), mem.len(), cell, command, bank, phase)
+        c::lta_dump(
+            shape.as_ptr(),
+            shape.len(),
+            mem.as_mut_ptr(),
+            mem.len(),
+            cell,
+            command,
+            bank,
+            phase,
+            out.as_mut_ptr(),
+            out.len(),
+        )
     }
 }
 
@@ -226,7 +248,8 @@ pub fn read_frame(lags: u64, bytes: &[u8], head: &mut [u32]) -> u64 {
     unsafe { c::lta_read_frame(lags, bytes.as_ptr(), bytes.len(), head.as_mut_ptr(), head.len()) }
 }
 
-/// The length of the part of a frame that holds its lag pairs, from byte 30 on; 0 where the reader refuses.
+/// The part of a frame that holds its lag pairs: 65,536 × the byte at which it starts, 30 or 34, and its length added;
+/// 0 where the reader refuses.
 pub fn lag_part(lags: u64, bytes: &[u8]) -> u64 {
     // SAFETY: a slice's own pointer and length.
     unsafe { c::lta_lag_part(lags, bytes.as_ptr(), bytes.len()) }
@@ -271,7 +294,8 @@ mod tests {
             assert_eq!(c::lta_setup(numbers, 7, null_mut(), 0), 2 << 32);
             assert_eq!(c::lta_setup(numbers, 7, words, 87), 0);
             assert_eq!(c::lta_tick(numbers, 7, words, 87, null(), 0), 3 << 32);
-            assert_eq!(c::lta_dump(numbers, 7, words, 87, 0, 2, 0, 0), 0);
+            assert_eq!(c::lta_dump(numbers, 7, words, 87, 0, 3, 0, 0, null_mut(), 0), 10 << 32);
+            assert_eq!(c::lta_dump(numbers, 7, words, 87, 0, 2, 0, 0, null_mut(), 0), 0);
             assert_eq!(c::lta_integrate(numbers, 7, words, 87, 0), 0);
             assert_eq!(c::lta_emit(numbers, 7, words, 87, 0, 0, 0, null_mut(), 0), 10 << 32);
             assert_eq!(

@@ -1,15 +1,35 @@
-//! Frames: what an emission gives, and what the reader accepts of bytes from elsewhere.
+//! Frames: what an emission or a speed dump gives, and what the reader accepts of bytes from elsewhere.
 use std::borrow::Cow;
 
 use crate::ffi::{self, outcome};
 use crate::Refusal;
 
-const LAG_PART: usize = 30;
+/// The kind of a frame.
+///
+/// A speed frame has a word DATA_BIAS ahead of its lags, 98 × its ticks, which is already taken off them: the lags of
+/// both kinds are plain signed sums.
+///
+/// ```
+/// use lta::{Fields, Frame, Kind};
+///
+/// let fields = Fields { kind: Kind::Speed as u32, ticks: 3, ..Fields::default() };
+/// let frame = Frame::write(&fields, &[(6, 0), (10, 0)])?;
+/// assert_eq!(frame.bytes()[30..34], (98u32 * 3).to_le_bytes());
+/// # Ok::<(), lta::Refusal>(())
+/// ```
+#[derive(Clone, Copy, Debug, PartialEq, Eq, Hash)]
+#[repr(u32)]
+pub enum Kind {
+    /// The frame of a bin, which an emission gives: 34 + 8N bytes.
+    Accumulated = 2,
+    /// The frame of an open integration, which a speed dump gives: 38 + 8N bytes.
+    Speed = 3,
+}
 
 /// The fields of a frame's header words.
 #[derive(Clone, Copy, Debug, Default, PartialEq, Eq, Hash)]
 pub struct Fields {
-    /// The kind of frame: 2.
+    /// The kind of frame, 2 or 3, by [`Kind`].
     pub kind: u32,
     /// The cell, 0 to 15.
     pub cell: u32,
@@ -85,7 +105,7 @@ pub struct Frame<'a> {
 }
 
 impl<'a> Frame<'a> {
-    /// The frame of N lags that the bytes are. Refuses 1, 13, 14, 15, 16.
+    /// The frame of N lags that the bytes are, of either kind. Refuses 1, 13, 14, 15, 16, 18.
     ///
     /// ```
     /// assert_eq!(lta::Frame::read(2, &[0; 50]), Err(lta::Refusal::WrongMark));
@@ -99,6 +119,25 @@ impl<'a> Frame<'a> {
         &self.fields
     }
 
+    /// The kind of the frame, which its length and its fields tell alike.
+    ///
+    /// ```
+    /// use lta::{Fields, Frame, Kind};
+    ///
+    /// for kind in [Kind::Accumulated, Kind::Speed] {
+    ///     let fields = Fields { kind: kind as u32, ..Fields::default() };
+    ///     assert_eq!(Frame::write(&fields, &[(0, 0), (0, 0)])?.kind(), kind);
+    /// }
+    /// # Ok::<(), lta::Refusal>(())
+    /// ```
+    pub fn kind(&self) -> Kind {
+        if self.fields.kind == Kind::Speed as u32 {
+            Kind::Speed
+        } else {
+            Kind::Accumulated
+        }
+    }
+
     /// The bytes of the frame, its mark first.
     pub fn bytes(&self) -> &[u8] {
         &self.bytes
@@ -107,14 +146,18 @@ impl<'a> Frame<'a> {
     /// The part of the bytes that holds the lag pairs.
     ///
     /// ```
-    /// # let fields = lta::Fields { kind: 2, ticks: 1, ..Default::default() };
-    /// # let frame = lta::Frame::write(&fields, &[(3, -4), (0, 98)])?;
+    /// use lta::{Fields, Frame};
+    ///
+    /// let fields = Fields { kind: 2, ticks: 1, ..Fields::default() };
+    /// let frame = Frame::write(&fields, &[(3, -4), (0, 98)])?;
     /// assert_eq!(frame.lag_part(), &frame.bytes()[30..46]);
+    /// let speed = Frame::write(&Fields { kind: 3, ..fields }, &[(3, -4), (0, 98)])?;
+    /// assert_eq!(speed.lag_part(), &speed.bytes()[34..50]);
     /// # Ok::<(), lta::Refusal>(())
     /// ```
     pub fn lag_part(&self) -> &[u8] {
-        let length = ffi::lag_part(self.lags, &self.bytes) as usize;
-        &self.bytes[LAG_PART..LAG_PART + length]
+        let part = ffi::lag_part(self.lags, &self.bytes) as usize;
+        &self.bytes[part / 65_536..][..part % 65_536]
     }
 
     /// I and Q of each lag, from lag 0 on.
@@ -149,7 +192,7 @@ impl<'a> Frame<'a> {
         })
     }
 
-    /// A frame of the fields and of I and Q of each lag. Refuses 1, 16.
+    /// A frame of the fields and of I and Q of each lag, of the kind that the fields name. Refuses 1, 16.
     ///
     /// ```
     /// use lta::{Fields, Frame, Refusal};
@@ -158,12 +201,16 @@ impl<'a> Frame<'a> {
     /// assert!(Frame::write(&fields, &[(3, -4), (0, 98)]).is_ok());
     /// assert_eq!(Frame::write(&fields, &[(3, -4), (0, 99)]), Err(Refusal::BadField));
     /// assert_eq!(Frame::write(&fields, &[(3, -4)]), Err(Refusal::BadShape));
+    /// assert!(Frame::write(&Fields { kind: 3, ..fields }, &[(3, -4), (0, 98)]).is_ok());
+    /// assert_eq!(Frame::write(&Fields { kind: 4, ..fields }, &[(3, -4), (0, 98)]), Err(Refusal::BadField));
     /// ```
     pub fn write(fields: &Fields, lags: &[(i32, i32)]) -> Result<Frame<'static>, Refusal> {
         let numbers: Vec<i32> = lags.iter().flat_map(|&(i, q)| [i, q]).collect();
-        let mut bytes = vec![0; 34 + 8 * lags.len()];
+        // Room for the longer kind.
+        let mut bytes = vec![0; 38 + 8 * lags.len()];
         let n = lags.len() as u64;
-        outcome(ffi::write_frame(n, &fields.numbers(), &numbers, &mut bytes))?;
+        let length = outcome(ffi::write_frame(n, &fields.numbers(), &numbers, &mut bytes))?;
+        bytes.truncate(length as usize);
         Frame::from_vec(n, bytes)
     }
 

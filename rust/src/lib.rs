@@ -1,9 +1,9 @@
 //! The lag engine and its long-term accumulator, proved, for programs in Rust.
 //!
 //! A [`Run`] owns its work memory and takes ticks, dumps, integrations and emissions. A [`Frame`] is what an emission
-//! gives, and what the reader accepts of bytes from elsewhere. What is not kept is told by readings, and in printed
-//! lines by a page ([`Run::page`]). A call that is refused gives a [`Refusal`] and changes nothing. What each call
-//! means is in document 01 with the requests up to 2026-03, whose terms are used here.
+//! or a speed dump gives, and what the reader accepts of bytes from elsewhere. What is not kept is told by readings,
+//! and in printed lines by a page ([`Run::page`]). A call that is refused gives a [`Refusal`] and changes nothing. What
+//! each call means is in document 01 with the requests up to 2026-04, whose terms are used here.
 //!
 //! The work is done by a static library that is proved to do it ([`ffi`] is its C interface over slices); this crate
 //! adds types and owns the memory. The library keeps nothing between calls, so that all of a run is its shape and its
@@ -37,7 +37,7 @@ mod refusal;
 mod run;
 mod shape;
 
-pub use frame::{Complex, Fields, Frame};
+pub use frame::{Complex, Fields, Frame, Kind};
 pub use moves::{Command, Loss, Moved, Sums};
 pub use refusal::Refusal;
 pub use run::Run;

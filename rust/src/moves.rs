@@ -1,4 +1,5 @@
 //! What a dump orders, where a set goes, and what a loss has taken.
+use crate::Frame;
 
 /// The command of a dump. What it does to the cell's block stands with [`Run::dump`](crate::Run::dump).
 ///
@@ -14,6 +15,8 @@ pub enum Command {
     Add = 1,
     /// 010: hold what is open, to join its bin and make it Ready.
     Last = 2,
+    /// 011: what is open leaves as a speed frame.
+    Speed = 3,
     /// 100: what is open goes to loss 1.
     Discard = 4,
     /// 111: nothing.
@@ -32,7 +35,7 @@ pub enum Command {
 pub enum Loss {
     /// Discarded by command 100.
     Ordered = 1,
-    /// Dumped while Held was occupied.
+    /// Dumped by command 000, 001 or 010 while Held was occupied.
     Overrun = 2,
     /// Integrated into a Ready bin.
     Full = 3,
@@ -63,16 +66,18 @@ impl Loss {
 /// # let mut run = Run::new(shape)?;
 /// match run.dump(0, Command::Discard, 0, 0)? {
 ///     Moved::Lost(loss) => assert_eq!(loss, Loss::Ordered),
-///     Moved::Kept | Moved::Idle => unreachable!(),
+///     Moved::Kept | Moved::Sent(_) | Moved::Idle => unreachable!(),
 /// }
 /// # Ok::<(), lta::Refusal>(())
 /// ```
-#[derive(Clone, Copy, Debug, PartialEq, Eq, Hash)]
+#[derive(Clone, Debug, PartialEq, Eq)]
 pub enum Moved {
     /// The set is kept.
     Kept,
     /// A set went to a loss: that of Open or Held, or with [`Loss::Replaced`] the old set of the bin.
     Lost(Loss),
+    /// Command 011: what was open is the set of this speed frame.
+    Sent(Frame<'static>),
     /// Command 111: nothing was to do.
     Idle,
 }

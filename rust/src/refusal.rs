@@ -3,7 +3,7 @@ use std::fmt;
 
 /// Why a call was refused. A refused call changes nothing.
 ///
-/// The numbers are document 01's. Where several apply, a call gives the first in its own order.
+/// The numbers are those of documents 01 and 02. Where several apply, a call gives the first in its own order.
 ///
 /// ```
 /// use lta::Refusal;
@@ -25,7 +25,7 @@ pub enum Refusal {
     RunFull = 4,
     /// No such cell.
     NoCell = 5,
-    /// Command 011, 101, 110 or above 111.
+    /// Command 101, 110 or above 111.
     BadCommand = 6,
     /// Bank not 0 or 1, (phase + 1) × M above B, or a data bin not below B.
     NoBin = 7,
@@ -49,11 +49,13 @@ pub enum Refusal {
     BadField = 16,
     /// Unknown mark or a cut record in a script.
     BadRecord = 17,
+    /// A speed frame whose DATA_BIAS is not 98 × its ticks.
+    WrongBias = 18,
 }
 
 impl Refusal {
-    /// Every refusal, in the order 1 to 17.
-    pub const ALL: [Refusal; 17] = [
+    /// Every refusal, in the order 1 to 18.
+    pub const ALL: [Refusal; 18] = [
         Refusal::BadShape,
         Refusal::WrongMemory,
         Refusal::WrongSamples,
@@ -71,14 +73,15 @@ impl Refusal {
         Refusal::WrongSum,
         Refusal::BadField,
         Refusal::BadRecord,
+        Refusal::WrongBias,
     ];
 
-    /// The refusal's number, 1 to 17.
+    /// The refusal's number, 1 to 18.
     pub fn number(self) -> u32 {
         self as u32
     }
 
-    /// The refusal of a number; none but for 1 to 17.
+    /// The refusal of a number; none but for 1 to 18.
     pub fn from_number(number: u32) -> Option<Refusal> {
         let place = number.checked_sub(1)?;
         Refusal::ALL.get(usize::try_from(place).ok()?).copied()
@@ -91,7 +94,7 @@ impl Refusal {
             Refusal::WrongSamples => "not 2C bytes",
             Refusal::RunFull => "t is 2,147,483,648",
             Refusal::NoCell => "no such cell",
-            Refusal::BadCommand => "command 011, 101, 110 or above 111",
+            Refusal::BadCommand => "command 101, 110 or above 111",
             Refusal::NoBin => "no such bank, phase bin or data bin",
             Refusal::NothingHeld => "Held unoccupied",
             Refusal::NotReady => "bin not Ready",
@@ -103,6 +106,7 @@ impl Refusal {
             Refusal::WrongSum => "wrong last word",
             Refusal::BadField => "a fixed bit wrong, or a field beyond its limits",
             Refusal::BadRecord => "unknown mark or a cut record",
+            Refusal::WrongBias => "wrong DATA_BIAS",
         }
     }
 }

@@ -114,6 +114,9 @@ impl Run {
     /// to S. A cell's first dump but 111 in a fresh run uses S. A dump that goes to a loss moves the block, and counts
     /// as a last command, like one that is kept; 111 and a refused dump do neither.
     ///
+    /// 011 gives what is open as a speed frame of that bin, whether or not Held is occupied, and leaves Held, bins and
+    /// losses as they are. For the block it counts as a 001.
+    ///
     /// ```
     /// # use lta::{Command, Loss, Moved, Run, Shape};
     /// let shape = Shape { cells: 1, lags: 2, bins: 2, blocks: 2, start: 5, rate: 4, second: 0 };
@@ -125,11 +128,40 @@ impl Run {
     /// }
     /// assert_eq!(run.dump(0, Command::Add, 0, 0)?, Moved::Kept);
     /// assert_eq!(run.dump(0, Command::Add, 0, 0)?, Moved::Lost(Loss::Overrun));
+    /// run.tick(&[0x02, 0x03])?;
+    /// let Moved::Sent(frame) = run.dump(0, Command::Speed, 0, 0)? else { unreachable!() };
+    /// assert_eq!((frame.fields().ticks, frame.fields().block), (1, 6));
     /// # Ok::<(), lta::Refusal>(())
     /// ```
     pub fn dump(&mut self, cell: u64, command: Command, bank: u64, phase: u64) -> Result<Moved, Refusal> {
-        let result = ffi::dump(&self.numbers, &mut self.words, cell, command as u64, bank, phase);
+        if command == Command::Speed {
+            let mut bytes = vec![0; self.shape.speed_frame_length()];
+            self.speed_dump(cell, bank, phase, &mut bytes)?;
+            return Frame::from_vec(self.shape.lags, bytes).map(Moved::Sent);
+        }
+        let result = ffi::dump(&self.numbers, &mut self.words, cell, command as u64, bank, phase, &mut []);
         outcome(result).map(Moved::from_answer)
+    }
+
+    /// A dump with [`Command::Speed`], as [`dump`](Run::dump) does it, whose frame goes into the front of `out`; the
+    /// other bytes of `out` stay. Gives the frame's length, [`Shape::speed_frame_length`]. Refuses 5, 7, 10.
+    ///
+    /// ```
+    /// # use lta::{Frame, Kind, Refusal, Run, Shape};
+    /// # let shape = Shape { cells: 1, lags: 2, bins: 1, blocks: 1, start: 0, rate: 4, second: 0 };
+    /// let mut run = Run::new(shape)?;
+    /// run.tick(&[0x02, 0x03])?;
+    /// let mut out = [0; 60];
+    /// assert_eq!(run.speed_dump(0, 0, 0, &mut out[..53]), Err(Refusal::ShortBuffer));
+    /// assert_eq!(run.speed_dump(0, 0, 0, &mut out), Ok(54));
+    /// let frame = Frame::read(2, &out[..54])?;
+    /// assert_eq!((frame.kind(), frame.fields().ticks), (Kind::Speed, 1));
+    /// # Ok::<(), Refusal>(())
+    /// ```
+    pub fn speed_dump(&mut self, cell: u64, bank: u64, phase: u64, out: &mut [u8]) -> Result<usize, Refusal> {
+        let command = Command::Speed as u64;
+        let result = ffi::dump(&self.numbers, &mut self.words, cell, command, bank, phase, out);
+        outcome(result).map(|length| length as usize)
     }
 
     /// An integration of one cell: Held goes to its bin. Refuses 5, 8.

@@ -44,7 +44,7 @@ impl Shape {
         ffi::outcome(ffi::words_needed(&self.numbers())).map(|words| words as usize)
     }
 
-    /// The bytes of a frame of this shape: 34 + 8N.
+    /// The bytes of a bin's frame of this shape: 34 + 8N.
     ///
     /// ```
     /// # let shape = lta::Shape { cells: 1, lags: 2, bins: 1, blocks: 1, start: 0, rate: 4, second: 0 };
@@ -52,6 +52,16 @@ impl Shape {
     /// ```
     pub fn frame_length(&self) -> usize {
         34 + 8 * self.lags as usize
+    }
+
+    /// The bytes of a speed frame of this shape: 38 + 8N.
+    ///
+    /// ```
+    /// # let shape = lta::Shape { cells: 1, lags: 2, bins: 1, blocks: 1, start: 0, rate: 4, second: 0 };
+    /// assert_eq!(shape.speed_frame_length(), 54);
+    /// ```
+    pub fn speed_frame_length(&self) -> usize {
+        38 + 8 * self.lags as usize
     }
 
     /// The bytes of a page of this shape: 41 × (6C + 1).

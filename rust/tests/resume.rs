@@ -6,7 +6,8 @@ use std::path::{Path, PathBuf};
 use lta::{Command, Frame, Loss, Moved, Refusal, Run, Shape, Sums};
 
 const SHAPE: Shape = Shape { cells: 2, lags: 6, bins: 4, blocks: 2, start: 3, rate: 10, second: 100 };
-const COMMANDS: [Command; 5] = [Command::Save, Command::Add, Command::Last, Command::Discard, Command::Idle];
+const COMMANDS: [Command; 6] =
+    [Command::Save, Command::Add, Command::Last, Command::Speed, Command::Discard, Command::Idle];
 
 /// What one turn of calls gives.
 #[derive(Debug, PartialEq)]
@@ -23,7 +24,7 @@ struct Turn {
 fn turn(run: &mut Run, number: u64) -> Turn {
     let x = number.wrapping_mul(0x9e37_79b9_7f4a_7c15).rotate_left(20).to_le_bytes();
     let [cell, bank, phase, offset] = [x[4], x[5], x[6], x[7]].map(|byte| u64::from(byte % 16 / 7));
-    let command = COMMANDS[usize::from(x[0] % 5)];
+    let command = COMMANDS[usize::from(x[0] % 6)];
     let pairs = (0..=SHAPE.lags).flat_map(|lag| Loss::ALL.map(|loss| (lag, loss)));
     Turn {
         held_off: run.tick(&x[..4]),
@@ -60,16 +61,17 @@ fn a_resumed_run_goes_on_as_if_it_had_never_stopped() {
     let path = file("run-words");
     let mut whole = Run::new(SHAPE).unwrap();
     save(&path, Run::new(SHAPE).unwrap().words());
-    let mut frames = 0;
+    let (mut frames, mut speeds) = (0, 0);
     for number in 0..600 {
         let mut part = Run::resume(SHAPE, saved(&path)).unwrap();
         let expected = turn(&mut whole, number);
         assert_eq!(turn(&mut part, number), expected, "turn {number}");
         assert_eq!(part, whole, "turn {number}");
         frames += u32::from(expected.frame.is_ok_and(|frame| frame.fields().ticks > 0));
+        speeds += u32::from(matches!(expected.dumped, Ok(Moved::Sent(frame)) if frame.fields().ticks > 0));
         save(&path, part.words());
     }
-    assert!(frames > 20, "{frames} frames with ticks");
+    assert!(frames > 20 && speeds > 20, "{frames} frames and {speeds} speed frames with ticks");
     fs::remove_file(&path).unwrap();
 }
 

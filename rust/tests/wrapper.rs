@@ -1,5 +1,5 @@
 //! The safe types beside the C interface that they stand on: the same answers, the same words of memory.
-use lta::{ffi, Command, Fields, Frame, Loss, Moved, Refusal, Run, Shape, Sums};
+use lta::{ffi, Command, Fields, Frame, Kind, Loss, Moved, Refusal, Run, Shape, Sums};
 
 const SHAPE: Shape = Shape { cells: 2, lags: 6, bins: 4, blocks: 2, start: 3, rate: 10, second: 100 };
 
@@ -23,10 +23,19 @@ impl Both {
         assert_eq!(self.run.tick(samples), direct);
     }
 
+    /// A speed dump alone writes in the buffer, and there the bytes of the frame that is sent.
     fn dump(&mut self, cell: u64, command: Command, bank: u64, phase: u64) -> Option<Moved> {
+        let mut out = [b'.'; 90];
         let number = command as u64;
-        let result = ffi::dump(&self.shape, &mut self.mem, cell, number, bank, phase);
-        self.moved(ffi::outcome(result), |run| run.dump(cell, command, bank, phase))
+        let result = ffi::dump(&self.shape, &mut self.mem, cell, number, bank, phase, &mut out);
+        let moved = self.moved(ffi::outcome(result), |run| run.dump(cell, command, bank, phase));
+        let mut left = [b'.'; 90];
+        if let Some(Moved::Sent(frame)) = &moved {
+            left[..86].copy_from_slice(frame.bytes());
+            again(frame, Kind::Speed);
+        }
+        assert_eq!(out, left, "{command:?}");
+        moved
     }
 
     fn integrate(&mut self, cell: u64) -> Option<Moved> {
@@ -41,12 +50,13 @@ impl Both {
         call: impl Fn(&mut Run) -> Result<Moved, Refusal>,
     ) -> Option<Moved> {
         let moved = call(&mut self.run);
-        let number = moved.map(|moved| match moved {
+        let number = |moved: &Moved| match moved {
             Moved::Kept => 0,
             Moved::Lost(loss) => loss.number(),
+            Moved::Sent(frame) => frame.bytes().len() as u32,
             Moved::Idle => 7,
-        });
-        assert_eq!(number, direct);
+        };
+        assert_eq!(moved.as_ref().map(number), direct.as_ref().copied());
         moved.ok()
     }
 
@@ -56,7 +66,7 @@ impl Both {
         match self.run.emit_frame(cell, bank, bin) {
             Ok(frame) => {
                 assert_eq!((direct, frame.bytes()), (Ok(82), &out[..]));
-                again(&frame);
+                again(&frame, Kind::Accumulated);
             }
             Err(refusal) => assert_eq!(direct, Err(refusal)),
         }
@@ -107,8 +117,9 @@ fn page_of(run: &Run) -> String {
 }
 
 /// A frame read and written again is the same; its lags, normalised, are its lags by the centre count.
-fn again(frame: &Frame) {
+fn again(frame: &Frame, kind: Kind) {
     let read = Frame::read(SHAPE.lags, frame.bytes()).unwrap();
+    assert_eq!((read.kind(), read.fields().kind), (kind, kind as u32));
     let lags: Vec<_> = read.lags().collect();
     assert_eq!(lags.len() as u64, SHAPE.lags);
     assert_eq!(Frame::write(read.fields(), &lags).unwrap(), read);
@@ -122,14 +133,15 @@ fn again(frame: &Frame) {
 
 #[test]
 fn a_run_is_its_calls() {
-    let commands = [Command::Add, Command::Save, Command::Last, Command::Discard, Command::Idle];
+    let commands =
+        [Command::Add, Command::Save, Command::Last, Command::Speed, Command::Discard, Command::Idle];
     let mut both = Both::new();
     let mut moves = Vec::new();
     for turn in 0..4000u64 {
         let x = turn.wrapping_mul(0x9e37_79b9_7f4a_7c15).rotate_left(20).to_le_bytes();
         both.tick(&x[..if turn % 50 == 0 { 3 } else { 4 }]);
         let [cell, bank, phase, offset] = [x[4], x[5], x[6], x[7]].map(|byte| u64::from(byte % 16 / 7));
-        let command = commands[usize::from(x[0] % 5)];
+        let command = commands[usize::from(x[0] % 6)];
         moves.extend(both.dump(cell, command, bank, phase));
         moves.extend(both.integrate(u64::from(x[1]) % 3));
         both.emit(cell, bank, SHAPE.blocks * phase + offset);
@@ -144,6 +156,89 @@ fn a_run_is_its_calls() {
     let losses = [Loss::Ordered, Loss::Overrun, Loss::Full, Loss::Replaced].map(Moved::Lost);
     for moved in losses.into_iter().chain([Moved::Kept, Moved::Idle]) {
         assert!(moves.contains(&moved), "no {moved:?} among the moves");
+    }
+    let speed = |moved: &&Moved| matches!(moved, Moved::Sent(frame) if frame.fields().ticks > 0);
+    let speeds = moves.iter().filter(speed).count();
+    assert!(speeds > 100, "{speeds} speed frames with ticks");
+}
+
+/// What is open with Held occupied: in a lent buffer or in one of its own it is the same frame, and the runs are the
+/// same behind it. Held stays for its integration.
+#[test]
+fn a_speed_dump_in_a_lent_buffer() {
+    let mut run = Run::new(SHAPE).unwrap();
+    run.tick(&[0x07; 4]).unwrap();
+    run.dump(0, Command::Last, 0, 0).unwrap();
+    (0..12).for_each(|turn| assert_eq!(run.tick(&[0x17, turn, 0x05, 0x06]), Ok(0)));
+    let mut other = run.clone();
+    let mut out = [b'.'; 90];
+    assert_eq!(run.speed_dump(0, 1, 1, &mut out), Ok(SHAPE.speed_frame_length()));
+    let Ok(Moved::Sent(frame)) = other.dump(0, Command::Speed, 1, 1) else {
+        panic!("no speed frame");
+    };
+    assert_eq!((&out[..86], &out[86..]), (frame.bytes(), &[b'.'; 4][..]));
+    assert_eq!(other, run);
+    let [kind, cell, block, bin, bank, ticks, _, _, second, offset] = frame.fields().numbers();
+    assert_eq!([kind, cell, block, bin, bank, ticks, second, offset], [3, 0, 4, 3, 1, 12, 100, 1]);
+    assert_eq!(run.forecast(0), Ok(524_288));
+    assert_eq!(run.integrate(0), Ok(Moved::Kept));
+    assert_eq!(run.emit_frame(0, 0, 0).unwrap().fields().ticks, 1);
+}
+
+/// For the block a speed dump is a 001: it moves one on, from the last block to the first, and a 010 behind it returns
+/// to the first.
+#[test]
+fn speed_dumps_drive_the_block() {
+    let mut run = Run::new(SHAPE).unwrap();
+    let mut speed = || match run.dump(1, Command::Speed, 0, 0) {
+        Ok(Moved::Sent(frame)) => frame.fields().block,
+        other => panic!("{other:?}"),
+    };
+    assert_eq!([speed(), speed(), speed()], [3, 4, 3]);
+    assert_eq!(run.dump(1, Command::Last, 0, 0), Ok(Moved::Kept));
+    assert_eq!(run.integrate(1), Ok(Moved::Kept));
+    assert_eq!(run.emit_frame(1, 0, 0).unwrap().fields().block, 3);
+}
+
+/// Refused speed dumps change neither the run nor the buffer. Each is given a buffer that is too short, too.
+#[test]
+fn speed_dumps_that_are_refused() {
+    let mut run = Run::new(SHAPE).unwrap();
+    run.tick(&[0x07; 4]).unwrap();
+    let mut damaged = run.words().to_vec();
+    damaged[0] = u64::MAX;
+    let damaged = Run::resume(SHAPE, damaged).unwrap();
+    for (run, cell, bank, phase, refusal) in [
+        (&run, 2, 2, 2, Refusal::NoCell),
+        (&run, 0, 2, 0, Refusal::NoBin),
+        (&run, 0, 0, 2, Refusal::NoBin),
+        (&damaged, 0, 0, 2, Refusal::NoBin),
+        (&damaged, 0, 0, 0, Refusal::Damaged),
+        (&run, 0, 0, 0, Refusal::ShortBuffer),
+    ] {
+        for room in [0, 1, SHAPE.frame_length(), 85] {
+            let (mut refused, mut out) = (run.clone(), [b'.'; 85]);
+            assert_eq!(refused.speed_dump(cell, bank, phase, &mut out[..room]), Err(refusal), "{room} bytes");
+            assert_eq!((&refused, out), (run, [b'.'; 85]));
+        }
+    }
+}
+
+/// Any other command leaves a buffer of any length as it is, and does with each what it does with none.
+#[test]
+fn other_dumps_leave_the_buffer_alone() {
+    let mut run = Run::new(SHAPE).unwrap();
+    run.tick(&[0x07; 4]).unwrap();
+    for command in (0..9).filter(|command| *command != Command::Speed as u64) {
+        let dumped = |room: usize| {
+            let (mut mem, mut out) = (run.words().to_vec(), [b'.'; 90]);
+            let result = ffi::dump(&SHAPE.numbers(), &mut mem, 0, command, 0, 0, &mut out[..room]);
+            assert_eq!(out, [b'.'; 90], "command {command}, {room} bytes");
+            (result, mem)
+        };
+        for room in [1, 85, 86, 90] {
+            assert!(dumped(room) == dumped(0), "command {command}, {room} bytes");
+        }
     }
 }
 
@@ -169,18 +264,38 @@ fn refusals_have_their_numbers() {
         assert_eq!((refusal.number(), Refusal::from_number(number)), (number, Some(refusal)));
         assert!(refusal.to_string().starts_with(&format!("refusal {number}: ")));
     }
-    assert_eq!([0, 18, u32::MAX].map(Refusal::from_number), [None; 3]);
+    assert_eq!([0, 19, u32::MAX].map(Refusal::from_number), [None; 3]);
 }
 
 #[test]
 fn a_frame_that_is_refused_is_no_frame() {
-    let fields = Fields { kind: 2, ticks: 5, ..Fields::default() };
+    for kind in [2, 3] {
+        let fields = Fields { kind, ticks: 5, ..Fields::default() };
+        let frame = Frame::write(&fields, &[(1, 2), (3, 4)]).unwrap();
+        for at in 0..frame.bytes().len() {
+            let mut bytes = frame.bytes().to_vec();
+            bytes[at] ^= 0x10;
+            let refusal = if at < 2 { Refusal::WrongMark } else { Refusal::WrongSum };
+            assert_eq!(Frame::read(2, &bytes), Err(refusal), "kind {kind}, byte {at}");
+        }
+    }
+    for kind in [0, 1, 4, 8, u32::MAX] {
+        let fields = Fields { kind, ticks: 5, ..Fields::default() };
+        assert_eq!(Frame::write(&fields, &[(1, 2), (3, 4)]), Err(Refusal::BadField), "kind {kind}");
+    }
+}
+
+/// One less in a byte of a header word and in one of the last word, which is then the right one.
+#[test]
+fn a_speed_frame_of_another_kind_or_bias() {
+    let fields = Fields { kind: 3, ticks: 5, ..Fields::default() };
     let frame = Frame::write(&fields, &[(1, 2), (3, 4)]).unwrap();
-    assert_eq!(Frame::write(&Fields { kind: 3, ..fields }, &[(1, 2), (3, 4)]), Err(Refusal::BadField));
-    for at in 0..frame.bytes().len() {
+    for (at, refusal) in [(2, Refusal::BadField), (30, Refusal::WrongBias)] {
         let mut bytes = frame.bytes().to_vec();
-        bytes[at] ^= 0x10;
-        let refusal = if at < 2 { Refusal::WrongMark } else { Refusal::WrongSum };
+        bytes[at] -= 1;
+        bytes[50] -= 1;
         assert_eq!(Frame::read(2, &bytes), Err(refusal), "byte {at}");
+        assert_eq!(ffi::lag_part(2, &bytes), 0, "byte {at}");
+        assert_eq!(ffi::normalised_lag(2, &bytes, 2, &mut [0.0; 2]), u64::from(refusal.number()) << 32);
     }
 }

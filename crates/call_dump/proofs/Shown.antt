@@ -1,21 +1,21 @@
--- What the tests of an accepted dump showed.
-use mathlib.Core.Path.{_≡_, refl, sym}
-use mathlib.Core.Bool.{Bool, true, false, _&&_, _||_}
+-- What the tests of an accepted dump showed, and of a speed dump.
+use mathlib.Core.Path.{_≡_, sym, subst}
+use mathlib.Core.Bool.{true}
 use mathlib.Core.List.{List}
 use Prim.Native.Nat.{ℕ, _<_, _≤_}
-use native.Mathlib.Omega.{arith}
-use lib.Dec.{leb, eqb}
-use borrow.Author.Tests.{leb-true, eqb-true}
-use Rattle.lta_spec.specs.Call.{last, discard, idle, commandOk, phaseOk, bankOk}
+use lib.ListN.{length}
+use borrow.Author.Tests.{leb-true}
+use Rattle.lta_spec.specs.Call.{idle, speed, dumpFits}
 use Rattle.lta_spec.specs.Call.Call.{dump}
 use Rattle.lta_spec.specs.Damage as D
 use Rattle.lta_spec.specs.Step as S
 use Rattle.lta_spec.specs.declared.Shape.{Shape}
 use Rattle.lta_spec.specs.declared.Verdict.the-variants.{Accepted}
-use Rattle.lta_spec.proofs.TestLaws.{pass}
-use Rattle.lta_spec.proofs.BlockRows.{dump-below}
+use Rattle.lta_spec.proofs.Passed.{DumpPassed, dump-passed}
 use Rattle.call_run.specs.Runs.{Celled, runOf}
-use Rattle.call_run.proofs.StepLaws.{cell-shown, sound-shown}
+use Rattle.call_run.proofs.RunLaws.{shape-ok}
+use Rattle.call_run.proofs.StepLaws.{cell-shown}
+use Rattle.call_speed.specs.Sending.{SendsFrom}
 use Rattle.call_dump.specs.Dumping.{dumpedBy}
 
 pub record Dumps (s : Shape) (mem : List ℕ) (c command bank phase : ℕ) : Type 0 where
@@ -25,29 +25,38 @@ pub record Dumps (s : Shape) (mem : List ℕ) (c command bank phase : ℕ) : Typ
       ≡ true
   pub bin : (dumpedBy (s .blocks) command bank phase (S.unitAt s c (runOf s mem))) .bin < s .bins
 
-command-small : (c : ℕ) → commandOk c ≡ true → c ≤ idle
-unfolding commandOk
-command-small c ok = by-test (leb c last) (eqb c discard) (eqb c idle) refl refl refl ok
-  where
-    by-test : (x y z : Bool) → leb c last ≡ x → eqb c discard ≡ y → eqb c idle ≡ z → x || (y || z) ≡ true → c ≤ idle
-    by-test true y z p q r h = omega (arith, leb-true c last p)
-    by-test false true z p q r h = omega (arith, eqb-true c discard q)
-    by-test false false true p q r h = omega (arith, eqb-true c idle r)
-    by-test false false false p q r h = let w : _≡_ {A = ℕ} 0 1 = cc in absurd (omega arith)
+module _ (s : Shape) (mem : List ℕ) (c command bank phase : ℕ) (out : List ℕ)
+    (e : Accepted ≡ S.verdict s mem (dump c command bank phase out)) where
+  passed : DumpPassed s mem c command bank phase (length out)
+  passed = dump-passed s mem c command bank phase out (sym e)
 
-pub dumps : (s : Shape) (mem : List ℕ) (c command bank phase : ℕ)
-    → Accepted ≡ S.verdict s mem (dump c command bank phase) → Dumps s mem c command bank phase
-unfolding S.verdict runOf
-dumps s mem c command bank phase e =
-    let r = runOf s mem in
-    let x = cell-shown s mem c _ e in
-    let y = pass (commandOk command) _ _ (x .1) in
-    let z = pass (bankOk bank && phaseOk s phase) _ _ (y .1) in
-    let w = sound-shown (r .t)
-    (D.dumpUnitSound (s .lags) (s .bins) (s .blocks) (r .t) command (S.unitAt s c r)) _ (z .1) in
+  there : Celled s mem c
+  unfolding S.verdict
+  there = cell-shown s mem c _ e .0
+
+  pub dumps : Dumps s mem c command bank phase
+  unfolding runOf
+  dumps = record { cell = there; known = passed .known; sound = passed .sound; bin = passed .bin }
+
+-- a speed dump
+pub sends : (s : Shape) (mem : List ℕ) (c command bank phase : ℕ) (out : List ℕ)
+    → Accepted ≡ S.verdict s mem (dump c command bank phase out) → command ≡ speed → SendsFrom s mem c bank phase out
+unfolding runOf dumpFits
+sends s mem c command bank phase out e is =
+    let at : Accepted ≡ S.verdict s mem (dump c speed bank phase out) =
+    subst (λ k. Accepted ≡ S.verdict s mem (dump c k bank phase out)) is e in
+    let p = passed s mem c speed bank phase out at in
+    let q = there s mem c speed bank phase out at in
     record {
-      cell = x .0;
-      known = command-small command (y .0);
-      sound = w .1;
-      bin = dump-below s mem c command bank phase (sym e);
+      cell = q;
+      sends =
+          record {
+            shaped = shape-ok s mem (q .hosted);
+            celled = q .there;
+            banked = p .inBanks;
+            binned = p .bin;
+            limited = p .time;
+            sound = p .sound;
+            room = leb-true _ _ (p .room);
+          };
     }

@@ -25,7 +25,7 @@ pub record EmitsFrom (s : Shape) (mem : List ℕ) (c bank bin : ℕ) (out : List
 -- the frame of the bin
 abbrev pub frameAt : Shape → (c bank bin : ℕ) → Run → List ℕ
 frameAt s c bank bin r =
-    rowFrame s c bank bin ((binAt (s .lags) (binIndex (s .bins) bank bin) (cellAt s c r)) .content)
+    rowFrame s accumulated c bank bin ((binAt (s .lags) (binIndex (s .bins) bank bin) (cellAt s c r)) .content)
 
 -- the run without what the frame took
 abbrev pub emitted : Shape → (c bank bin : ℕ) → Run → Run

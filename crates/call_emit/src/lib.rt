@@ -5,10 +5,12 @@ use call_run::cell_start;
 use cell_bins::bin_number;
 use cell_bins::empty_bin;
 use cell_layout::ROW;
+use cell_layout::STAMP;
 use cell_layout::bin_start;
 use cell_layout::row_words;
 use frame_emission::put_frame;
 use frame_header::frame_length;
+use lta_spec::ACCUMULATED;
 use lta_spec::Shape;
 use lta_spec::Verdict;
 use lta_spec::Written;
@@ -33,8 +35,19 @@ fn frame_from(s: Shape, mem: &[u64], cell: u64, bank: u64, bin: u64, out: &mut [
     let bins = s.bins as usize;
     let part = cell_part(s, mem, cell);
     let at = bin_start(n, bins, bin_number(bank, bin, bins));
-    let e = at + (ROW + row_words(n));
-    put_frame(s, cell, bank, bin, &part[at..e], &mut *out);
+    let stamp = part[at + STAMP];
+    let row = at + ROW;
+    let e = row + row_words(n);
+    put_frame(
+        s,
+        ACCUMULATED,
+        cell,
+        bank,
+        bin,
+        stamp,
+        &part[row..e],
+        &mut *out,
+    );
 }
 
 // The bin is Free and empty; its stamp stays.
@@ -64,7 +77,7 @@ pub fn emit(s: Shape, mem: &mut [u64], cell: u64, bank: u64, bin: u64, out: &mut
         Verdict::Accepted => {
             frame_from(s, &*mem, cell, bank, bin, &mut *out);
             free_bin(s, &mut *mem, cell, bank, bin);
-            Written::Length(frame_length(s.lags))
+            Written::Length(frame_length(ACCUMULATED, s.lags))
         }
     }
 }

@@ -9,6 +9,7 @@ use cell_bins::bin_ok;
 use cell_layout::READY;
 use cell_layout::bin_start;
 use frame_header::frame_length;
+use lta_spec::ACCUMULATED;
 use lta_spec::Refusal;
 use lta_spec::Shape;
 use lta_spec::Verdict;
@@ -32,7 +33,7 @@ fn bin_verdict(s: Shape, mem: &[u64], c: u64, bank: u64, bin: u64, room: usize) 
     let parts = bin_ok(part, n, bins, t, k);
     let at = bin_start(n, bins, k);
     let ready = part[at] == READY;
-    let fits = frame_length(s.lags) <= room as u64;
+    let fits = frame_length(ACCUMULATED, s.lags) <= room as u64;
     sound_tested(
         t,
         parts,

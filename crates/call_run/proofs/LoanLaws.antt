@@ -1,6 +1,6 @@
 -- The words of a cell, lent and given back: what they are, and what `step` makes of work memory through them.
-use mathlib.Core.Path.{_≡_, sym, ap, _∙_, subst}
-use mathlib.Core.List.{List, []}
+use mathlib.Core.Path.{_≡_, refl, sym, ap, _∙_, subst}
+use mathlib.Core.List.{List}
 use Prim.Native.Nat.{ℕ, _+_, _-_}
 use lib.ListN.{set, take, drop}
 use borrow.Rule.Slice.PartMut.{putMid}
@@ -60,18 +60,18 @@ module _ {s : Shape} {mem : List ℕ} {c : ℕ} (q : Celled s mem c) {at K : ℕ
       lays-put (run-law s) (loan-unit vs _ (lays-to v (ap (λ u. withPlaces u places) (loan-is .unit))))
 
   -- a dump or an integration of that cell, which moves its places by f and its block counter by g
-  pub loan-moved : (call : Call) (f : Unit → Result Row) (g : Unit → Counter) (m : Moved) (vs : List ℕ)
+  pub loan-moved : (call : Call) (out : List ℕ) (f : Unit → Result Row) (g : Unit → Counter) (m : Moved) (vs : List ℕ)
       → Accepted ≡ S.verdict s mem call
       → (let u = S.unitAt s c (runOf s mem) in
       S.accepted s call (runOf s mem) ≡ record {
         answer = number ((f u) .answer);
-        out = [];
+        out = out;
         run = S.withDump s c ((f u) .cell) (g u) (runOf s mem);
       })
       → (let u = unitOf (s .lags) (s .bins) loan in Leaves (s .lags) (s .bins) (withCounter u (g u)) (f u) m vs)
       → (movedAs m ≡ (S.step s call mem) .answer)
-      × (putMid at (at + K - at) mem vs ≡ (S.step s call mem) .mem)
+      × ((out ≡ (S.step s call mem) .out) × (putMid at (at + K - at) mem vs ≡ (S.step s call mem) .mem))
   unfolding S.withDump
-  loan-moved call f g m vs ok acc l =
+  loan-moved call out f g m vs ok acc l =
       rw (done s mem call ok, acc, ← loan-is .unit)
-      (l .answer, lays-put (run-law s) (loan-unit vs _ (l .words)))
+      (l .answer, (refl, lays-put (run-law s) (loan-unit vs _ (l .words))))

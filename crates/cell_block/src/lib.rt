@@ -5,6 +5,7 @@ use cell_layout::DISCARD;
 use cell_layout::IDLE;
 use cell_layout::LAST;
 use cell_layout::LAST_COMMAND;
+use cell_layout::SPEED;
 ghost use mathlib.Core.Path.{_≡_};
 ghost use mathlib.Core.Bool.{true};
 ghost use Prim.Native.Nat.{_<_, _≤_};
@@ -44,6 +45,13 @@ fn offset_after(blocks: u64, command: u64, offset: u64, code: u64) -> u64
     0
 }
 
+// The command that is kept as the last one: 001 for 011.
+fn kept_as(command: u64) -> u64
+    ensures { λ r. ⌜ r ≡ E.keptAs command ⌝ }
+{
+    if command == SPEED { ADD } else { command }
+}
+
 // The step in a dump that is not refused; the offset of the dump's block.
 pub fn count_block(cell: &mut [u64], n: usize, bins: usize, blocks: u64, command: u64) -> u64
     requires { ⌜ (Fits (now cell) n bins × (command ≤ idle))
@@ -56,6 +64,6 @@ pub fn count_block(cell: &mut [u64], n: usize, bins: usize, blocks: u64, command
     }
     let next = offset_after(blocks, command, offset, cell[LAST_COMMAND]);
     cell[BLOCK] = next;
-    cell[LAST_COMMAND] = command + 1;
+    cell[LAST_COMMAND] = kept_as(command) + 1;
     next
 }

@@ -9,7 +9,7 @@ use native.Mathlib.Omega.{arith}
 use lib.Dec.{leb, eqb}
 use lib.ListN.{length, getD, set}
 use borrow.Author.Tests.{leb-true, eqb-true, eqb-false, eq-eqb, ne-eqb}
-use Rattle.lta_spec.specs.Words.{sums, zeros}
+use Rattle.lta_spec.specs.Words.{splice, sums, zeros}
 use Rattle.lta_spec.specs.Shape.{openLimit}
 use Rattle.lta_spec.specs.Size.{rowWords}
 use Rattle.lta_spec.specs.Place.{Label, Cell, lossCount}
@@ -19,6 +19,7 @@ use Rattle.lta_spec.specs.Engine.{Row, Unit, lossAt}
 use Rattle.lta_spec.specs.Damage as D
 use Rattle.lta_spec.specs.Memory.{unitL}
 use Rattle.lta_spec.proofs.TestLaws.{and-both}
+use Rattle.lta_spec.proofs.WordLaws.{length-zeros}
 use Rattle.words.specs.Moves.{Folds, folded}
 use Rattle.cell_layout.specs.Lays.{Lays}
 use Rattle.cell_layout.specs.Offsets.{
@@ -33,7 +34,7 @@ use Rattle.cell_layout.specs.Offsets.{
   lossRowAt,
 }
 use Rattle.cell_layout.specs.Cells.{Small, withPlaces}
-use Rattle.cell_layout.proofs.LaysLaws.{word-of, row-length, lays-set, lays-move}
+use Rattle.cell_layout.proofs.LaysLaws.{word-of, row-length, lays-set, lays-row, lays-move}
 use Rattle.cell_layout.proofs.Fields as F
 use Rattle.lta_spec.proofs.RowLaws.{zeros-sums}
 use Rattle.cell_layout.proofs.RowLaws.{clear, small-row, folds}
@@ -108,6 +109,14 @@ module _ (n bins : ℕ) {l : List ℕ} {u : Unit} (s : Lays (unitL n bins) l u) 
       (withPlaces u (E.loseOpen n i t (u .cell)))
   unfolding E.loseOpen E.lose
   lays-lose-open i t h = lays-set (lays-move s (F.openRow n bins) (F.loss n bins i h)) (F.openStamp n bins) t
+
+  -- Open is emptied
+  pub lays-send-open : (t : ℕ)
+      → Lays (unitL n bins) (set (splice l openRowAt (emptyRow n)) openStampAt t)
+      (withPlaces u (E.sendOpen n t (u .cell)))
+  unfolding E.sendOpen
+  lays-send-open t =
+      lays-set (lays-row s (F.openRow n bins) (emptyRow n) (length-zeros (rowWords n))) (F.openStamp n bins) t
 
   -- Open and the label go to Held
   module _ (x : Label) (t : ℕ) (d : DumpFacts (u .cell)) (o : eqb (u .cell .held .occupied) 1 ≡ false) where

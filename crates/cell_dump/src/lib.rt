@@ -1,4 +1,4 @@
-// A dump of one cell that is not refused: Open goes to a loss, or to Held.
+// A dump of one cell that is not refused: Open goes to a loss, or to Held, or is emptied behind its frame.
 use cell_layout::BANK;
 use cell_layout::COMMAND;
 use cell_layout::DATA_BIN;
@@ -15,13 +15,14 @@ use cell_layout::loss_row;
 use cell_layout::row_words;
 use lta_spec::Loss;
 use lta_spec::Moved;
+use words::clear;
 use words::fold;
 ghost use mathlib.Core.Path.{_≡_};
 ghost use mathlib.Core.Bool.{true, false};
 ghost use Prim.Native.Nat.{_<_};
 ghost use lib.Dec.{eqb};
 ghost use Rattle.lta_spec.specs.Place.{lossCount};
-ghost use Rattle.lta_spec.specs.Engine.{lossAt, loseOpen, holdOpen, dumpCell};
+ghost use Rattle.lta_spec.specs.Engine.{lossAt, loseOpen, holdOpen, sendOpen, dumpCell};
 ghost use Rattle.lta_spec.specs.Damage.{dumpParts, dumpSound};
 ghost use Rattle.cell_layout.specs.Cells.{Fits, Small, Changes, unitOf, placesOf};
 ghost use Rattle.cell_layout.specs.Moves.{labelOf, Leaves};
@@ -58,7 +59,17 @@ fn hold_open(cell: &mut [u64], n: usize, bins: usize, t: u64, command: u64, bank
     cell[OPEN_STAMP] = t;
 }
 
-// A dump that is not refused.
+// What a speed dump leaves: Open is empty, and the next integration takes the stamp given.
+pub fn send_open(cell: &mut [u64], n: usize, bins: usize, next: u64)
+    requires { ⌜ Fits (now cell) n bins ⌝ }
+    ensures { λ _. ⌜ Changes n bins (sendOpen n next) (now (cell .entry)) (now (cell .exit)) ⌝ }
+{
+    let w = row_words(n);
+    clear(&mut *cell, OPEN_ROW, w);
+    cell[OPEN_STAMP] = next;
+}
+
+// A dump with a command other than 011 that is not refused.
 pub fn dump_cell(
     cell: &mut [u64],
     n: usize,

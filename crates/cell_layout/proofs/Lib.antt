@@ -5,5 +5,4 @@ pub mod LaysLaws
 pub mod Fields
 pub mod CellLaws
 pub mod RowLaws
-pub mod BinLaws
 pub mod Blank

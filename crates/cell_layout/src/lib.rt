@@ -67,12 +67,14 @@ pub const HOLDOFF: usize = 5;
 
 pub const LOSSES: usize = 6;
 
-// Dump commands: 000, 001, 010, 100 and 111.
+// Dump commands: 000, 001, 010, 011, 100 and 111.
 pub const SAVE: u64 = 0;
 
 pub const ADD: u64 = 1;
 
 pub const LAST: u64 = 2;
+
+pub const SPEED: u64 = 3;
 
 pub const DISCARD: u64 = 4;
 

@@ -9,6 +9,7 @@ use cell_layout::OPEN_LIMIT;
 use cell_layout::OPEN_ROW;
 use cell_layout::ORDERED;
 use cell_layout::OVERRUN;
+use cell_layout::SPEED;
 use cell_layout::x_register;
 use cell_layout::y_register;
 use cell_parts::loss_holds;
@@ -16,7 +17,7 @@ use cell_parts::losses_ok;
 use cell_parts::open_ok;
 use words::entries_ok;
 ghost use mathlib.Core.Path.{_≡_};
-ghost use Rattle.lta_spec.specs.Damage.{dumpParts, dumpSound, tickSound};
+ghost use Rattle.lta_spec.specs.Damage.{dumpParts, losesNone, dumpSound, tickSound};
 ghost use Rattle.cell_layout.specs.Cells.{Fits, unitOf, placesOf};
 
 // Are Open, Held and the losses such as the engine leaves?
@@ -31,6 +32,13 @@ fn dump_parts(cell: &[u64], n: usize, bins: usize, t: u64) -> bool
     opened & (held & (label & losses))
 }
 
+// Does the command add to no loss?
+fn loses_none(command: u64) -> bool
+    ensures { λ r. ⌜ r ≡ losesNone command ⌝ }
+{
+    (command == IDLE) | (command == SPEED)
+}
+
 // Does a dump find its parts as the engine leaves them, and room in the loss that it adds to?
 pub fn dump_sound(cell: &[u64], n: usize, bins: usize, t: u64, command: u64) -> bool
     requires { ⌜ Fits (now cell) n bins ⌝ }
@@ -40,7 +48,7 @@ pub fn dump_sound(cell: &[u64], n: usize, bins: usize, t: u64, command: u64) -> 
         return false; // damaged
     }
     let ticks = cell[OPEN_ROW];
-    if command == IDLE {
+    if loses_none(command) {
         return true;
     }
     if command == DISCARD {

@@ -1,6 +1,6 @@
 -- The rest of a list, lent to be read. What the stores of a frame's words leave: the words put one run behind the
 -- other, their sum behind them, and the bytes behind the mark, lent to be written.
-use mathlib.Core.Path.{_≡_, refl, ap, _∙_}
+use mathlib.Core.Path.{_≡_, refl, sym, ap, _∙_}
 use mathlib.Core.Bool.{true}
 use mathlib.Core.List.{List, [], _∷_, _++_, append-nil}
 use Prim.Native.Nat.{ℕ, suc, _+_, _*_, _-_, _≤_}
@@ -10,7 +10,7 @@ use lib.Seq.{take-at, take-all}
 use borrow.Rule.Slice.PartMut.{putMid}
 use Rattle.lta_spec.specs.Words.{splice}
 use Rattle.lta_spec.specs.Bytes.{wordRange, bytesOf, wordsOf}
-use Rattle.lta_spec.specs.Frame.{mark, checksum, sealed, header, fieldsOk}
+use Rattle.lta_spec.specs.Frame.{mark, headWords, checksum, sealed, header, fieldsOk}
 use Rattle.lta_spec.specs.declared.Fields.{Fields}
 use Rattle.lta_spec.proofs.WordLaws.{splice-eq, splice-append}
 use Rattle.lta_spec.proofs.ByteLaws.{Below, below-append, length-bytes, bytes-append, words-bytes-append}
@@ -30,28 +30,29 @@ first-words l ws k b e h =
     )
     (take-at ws _ k e)
 
-two-runs : (l head lags : List ℕ) (h : ℕ) → length head ≡ h
+pub two-runs : (l head lags : List ℕ) (h : ℕ) → length head ≡ h
     → splice (splice l 0 (bytesOf head)) (4 * h) (bytesOf lags) ≡ splice l 0 (bytesOf (head ++ lags))
 two-runs l head lags h e =
     let n : 4 * h ≡ 0 + length (bytesOf head) = omega (arith, length-bytes head) in
     rw (n, splice-append l 0 (bytesOf head) (bytesOf lags), ← bytes-append head lags)
 
 -- header words and lag words are put one behind the other, then the sum of what stands there
-pub body-put : (l : List ℕ) (f : Fields) (lags : List ℕ) (m : ℕ) {put : List ℕ} {sum : ℕ} → fieldsOk f ≡ true
-    → Below wordRange lags → length lags ≡ m → 4 * (7 + m) ≤ length l
-    → put ≡ splice (splice l 0 (bytesOf (header f))) 28 (bytesOf lags) → sum ≡ checksum (take (7 + m) (wordsOf put))
-    → splice put (4 * (7 + m)) (bytesOf (sum ∷ [])) ≡ splice l 0 (bytesOf (sealed (header f) lags))
+pub body-put : (l : List ℕ) (f : Fields) (lags : List ℕ) (h m : ℕ) {put : List ℕ} {sum : ℕ} → h ≡ headWords (f .kind)
+    → fieldsOk f ≡ true → Below wordRange lags → length lags ≡ m → 4 * (h + m) ≤ length l
+    → put ≡ splice (splice l 0 (bytesOf (header f))) (4 * h) (bytesOf lags)
+    → sum ≡ checksum (take (h + m) (wordsOf put))
+    → splice put (4 * (h + m)) (bytesOf (sum ∷ [])) ≡ splice l 0 (bytesOf (sealed (header f) lags))
 unfolding sealed
-body-put l f lags m ok b e room p q =
+body-put l f lags h m is ok b e room p q =
     let ws = header f ++ lags in
-    let k : length ws ≡ 7 + m = simp length-append (omega (arith, length-header f)) in
+    let k : length ws ≡ h + m = simp length-append (omega (arith, length-header f, is)) in
     rw (
       q,
       p,
-      two-runs l (header f) lags 7 (length-header f),
-      first-words l ws (7 + m) (below-append wordRange (header f) lags (header-below f (valid f ok)) b) k room,
+      two-runs l (header f) lags h (length-header f ∙ sym is),
+      first-words l ws (h + m) (below-append wordRange (header f) lags (header-below f (valid f ok)) b) k room,
     )
-    (two-runs l ws (checksum ws ∷ []) (7 + m) k)
+    (two-runs l ws (checksum ws ∷ []) (h + m) k)
 
 -- the mark is stored, and the rest, `&mut out[2..]`, is lent and comes back
 unfoldable pub markedOut : List ℕ → List ℕ

@@ -1,4 +1,4 @@
--- The frame of a bin by its words; the words of stored sums without their bias.
+-- The words of stored sums without their bias.
 use mathlib.Core.Path.{_≡_, refl, _∙_}
 use mathlib.Core.Bool.{Bool, true, false, cond}
 use mathlib.Core.List.{List, [], _∷_}
@@ -6,25 +6,12 @@ use Prim.Native.Nat.{ℕ, zero, suc, _+_, _-_, _%_, _<_, _≤_}
 use native.Mathlib.Omega.{arith}
 use lib.Dec.{ltb}
 use lib.IntN.{pos, negsuc, _-ℤ_}
-use lib.ListN.{length, getD, drop, length-map}
-use lib.Seq.{getD-drop, drop-drop}
+use lib.ListN.{length, getD, length-map}
 use borrow.Author.Tests.{ltb-true, ltb-false}
 use Rattle.lta_spec.specs.Bytes.{wordRange, numberWord}
 use Rattle.lta_spec.specs.Row.{unbiased, rowLags}
-use Rattle.lta_spec.specs.Frame.{frameOf, lagWords, header}
-use Rattle.lta_spec.specs.Engine.{stamped}
-use Rattle.lta_spec.specs.Step.{rowFrame}
-use Rattle.lta_spec.specs.declared.Shape.{Shape}
+use Rattle.lta_spec.specs.Frame.{lagWords}
 use Rattle.lta_spec.proofs.EmittedBack.{length-lags}
-use Rattle.frame_fields.specs.Emits.{fieldsFrom}
-
--- the frame of a bin's row, by the words of the bin
-pub frame-from : (s : Shape) (cell bank number : ℕ) (bin : List ℕ)
-    → rowFrame s cell bank number (stamped (drop 2 bin) (getD bin 1 0))
-    ≡ frameOf (header (fieldsFrom s cell bank number bin)) (lagWords (rowLags (getD bin 2 0) (drop 5 bin)))
-unfolding rowFrame
-frame-from s cell bank number bin =
-    rw (getD-drop 2 bin 0 0, getD-drop 2 bin 1 0, getD-drop 2 bin 2 0, drop-drop 3 2 bin)
 
 -- a stored sum without its bias
 pub word-from : (stored bias : ℕ) → bias ≤ wordRange

@@ -1,13 +1,11 @@
-// The frame of a bin, written from the words that the engine keeps of it: state, stamp, ticks, edge and centre count,
-// then the biased sums.
-use cell_layout::ROW;
+// The frame of a row, a bin's or Open's, written from the words that the engine keeps of it: ticks, edge and centre
+// count, then the biased sums.
 use cell_layout::SUMS;
 use frame_codec::put_word;
-use frame_codec::put_words;
 use frame_codec::sum_words;
 use frame_fields::emitted_fields;
-use frame_header::HEAD_WORDS;
-use frame_header::header_words;
+use frame_header::head_words;
+use frame_header::put_header;
 use lta_spec::Fields;
 use lta_spec::MARK;
 use lta_spec::PEAK;
@@ -15,19 +13,16 @@ use lta_spec::Shape;
 ghost use mathlib.Core.Path.{_≡_};
 ghost use mathlib.Core.Bool.{true};
 ghost use Prim.Native.Nat.{_+_, _*_, _≤_};
-ghost use lib.ListN.{length, getD, drop};
+ghost use lib.ListN.{length};
 ghost use lib.IntN.{pos, _-ℤ_};
 ghost use Rattle.lta_spec.specs.Words.{splice};
 ghost use Rattle.lta_spec.specs.Bytes.{wordRange, bytesOf, numberWord};
 ghost use Rattle.lta_spec.specs.Shape.{binLimit};
 ghost use Rattle.lta_spec.specs.Row.{rowLags};
-ghost use Rattle.lta_spec.specs.Frame.{accumulated, frameLength, sealed, lagWords, header, fieldsOk};
+ghost use Rattle.lta_spec.specs.Frame.{headWords, frameLength, sealed, lagWords, header, fieldsOk};
 ghost use Rattle.lta_spec.specs.Engine.{stamped};
 ghost use Rattle.lta_spec.specs.Step.{rowFrame};
 ghost use Rattle.frame_fields.specs.Emits.{Emits};
-
-// In a bin: the sums of its row.
-const BIN_SUMS: usize = ROW + SUMS;
 
 // The two's complement word of a stored sum without its bias.
 fn word_from(stored: u64, bias: u64) -> u32
@@ -55,28 +50,37 @@ fn put_sums(s: &mut [u8], k: usize, sums: &[u64], ticks: u32)
 
 // The words of a frame, in the bytes behind its mark.
 fn put_body(body: &mut [u8], f: Fields, sums: &[u64])
-    requires { ⌜ (fieldsOk f ≡ true) × (4 * (8 + length (now sums)) ≤ length (now body)) ⌝ }
+    requires { ⌜ (fieldsOk f ≡ true)
+        × (4 * (headWords (f .kind) + length (now sums) + 1) ≤ length (now body)) ⌝ }
     ensures { λ _. ⌜ now (body .exit)
         ≡ splice (now (body .entry)) 0
         (bytesOf (sealed (header f) (lagWords (rowLags (f .ticks) (now (sums .entry)))))) ⌝ }
 {
-    let head = header_words(f);
-    put_words(&mut *body, 0, &head);
-    put_sums(&mut *body, HEAD_WORDS, sums, f.ticks);
-    let k = HEAD_WORDS + sums.len();
+    put_header(&mut *body, f);
+    let head = head_words(f.kind);
+    put_sums(&mut *body, head, sums, f.ticks);
+    let k = head + sums.len();
     let sum = sum_words(&*body, k);
     put_word(&mut *body, k, sum);
 }
 
-// The frame of a bin, at the start of out.
-pub fn put_frame(s: Shape, cell: u64, bank: u64, number: u64, bin: &[u64], out: &mut [u8])
-    requires { ⌜ Emits s cell bank number (now bin) × (frameLength accumulated (s .lags) ≤ length (now out)) ⌝ }
+// The frame of a row, at the start of out.
+pub fn put_frame(
+    s: Shape,
+    kind: u32,
+    cell: u64,
+    bank: u64,
+    bin: u64,
+    stamp: u64,
+    row: &[u64],
+    out: &mut [u8],
+)
+    requires { ⌜ Emits s kind cell bank bin stamp (now row) × (frameLength kind (s .lags) ≤ length (now out)) ⌝ }
     ensures { λ _. ⌜ now (out .exit)
-        ≡ splice (now (out .entry)) 0 (rowFrame s cell bank number
-        (stamped (drop 2 (now (bin .entry))) (getD (now (bin .entry)) 1 0))) ⌝ }
+        ≡ splice (now (out .entry)) 0 (rowFrame s kind cell bank bin (stamped (now (row .entry)) stamp)) ⌝ }
 {
-    let f = emitted_fields(s, cell, bank, number, bin);
+    let f = emitted_fields(s, kind, cell, bank, bin, stamp, row);
     out[0] = MARK[0];
     out[1] = MARK[1];
-    put_body(&mut out[2..], f, &bin[BIN_SUMS..]);
+    put_body(&mut out[2..], f, &row[SUMS..]);
 }

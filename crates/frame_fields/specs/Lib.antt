@@ -1,2 +1,2 @@
--- What the frame of a bin wants.
+-- What the frame of a row wants.
 pub mod Emits

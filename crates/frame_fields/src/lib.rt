@@ -1,8 +1,6 @@
-// The fields of the frame of a bin, from the shape, the names of the bin and the words that the engine keeps of it.
+// The fields of the frame of a row, from the shape, its kind, the names of its bin, its stamp and its words.
 use cell_layout::CENTRE;
 use cell_layout::EDGE;
-use cell_layout::ROW;
-use cell_layout::STAMP;
 use cell_layout::TICKS;
 use lta_spec::Fields;
 use lta_spec::Shape;
@@ -13,19 +11,12 @@ ghost use Rattle.lta_spec.specs.Bytes.{wordRange};
 ghost use Rattle.lta_spec.specs.Frame.{fieldsOk};
 ghost use Rattle.frame_fields.specs.Emits.{Emits, fieldsFrom};
 
-// In a bin: ticks, edge and centre count of its row.
-const BIN_TICKS: usize = ROW + TICKS;
-
-const BIN_EDGE: usize = ROW + EDGE;
-
-const BIN_CENTRE: usize = ROW + CENTRE;
-
 // The Y block of a data bin: S + (data bin mod M).
-fn block_of(start: u64, blocks: u64, number: u64) -> u32
-    requires { ⌜ (1 ≤ blocks) × (start + number % blocks ≤ 255) ⌝ }
-    ensures { λ r. ⌜ r ≡ start + number % blocks ⌝ }
+fn block_of(start: u64, blocks: u64, bin: u64) -> u32
+    requires { ⌜ (1 ≤ blocks) × (start + bin % blocks ≤ 255) ⌝ }
+    ensures { λ r. ⌜ r ≡ start + bin % blocks ⌝ }
 {
-    (start + number % blocks) as u32
+    (start + bin % blocks) as u32
 }
 
 // The second of a stamp: Z + stamp div R.
@@ -44,23 +35,30 @@ fn offset_of(rate: u64, stamp: u64) -> u32
     (stamp % rate) as u32
 }
 
-// The fields of the frame of a bin.
-pub fn emitted_fields(s: Shape, cell: u64, bank: u64, number: u64, bin: &[u64]) -> Fields
-    requires { ⌜ Emits s cell bank number (now bin) ⌝ }
-    ensures { λ r. ⌜ (r ≡ fieldsFrom s cell bank number (now (bin .entry))) × (fieldsOk r ≡ true) ⌝ }
+// The fields of the frame of a row, a bin's or Open's.
+pub fn emitted_fields(
+    s: Shape,
+    kind: u32,
+    cell: u64,
+    bank: u64,
+    bin: u64,
+    stamp: u64,
+    row: &[u64],
+) -> Fields
+    requires { ⌜ Emits s kind cell bank bin stamp (now row) ⌝ }
+    ensures { λ r. ⌜ (r ≡ fieldsFrom s kind cell bank bin stamp (now (row .entry))) × (fieldsOk r ≡ true) ⌝ }
 {
-    let stamp = bin[STAMP];
-    let ticks = bin[BIN_TICKS] as u32;
-    let edge = bin[BIN_EDGE] as u32;
-    let centre = bin[BIN_CENTRE] as u32;
-    let block = block_of(s.start, s.blocks, number);
+    let ticks = row[TICKS] as u32;
+    let edge = row[EDGE] as u32;
+    let centre = row[CENTRE] as u32;
+    let block = block_of(s.start, s.blocks, bin);
     let second = second_of(s.second, s.rate, stamp);
     let offset = offset_of(s.rate, stamp);
     Fields {
-        kind: 2,
+        kind: kind,
         cell: cell as u32,
         block: block,
-        bin: number as u32,
+        bin: bin as u32,
         bank: bank as u32,
         ticks: ticks,
         centre: centre,

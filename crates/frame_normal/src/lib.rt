@@ -2,7 +2,8 @@
 use frame_codec::number_of;
 use frame_codec::word_at;
 use frame_header::CENTRE;
-use frame_header::HEAD_WORDS;
+use frame_header::head_words;
+use frame_header::length_kind;
 use frame_read::read_verdict;
 use lta_spec::Complex;
 use lta_spec::Normalised;
@@ -60,7 +61,8 @@ pub fn normalised_lag(n: u64, bytes: &[u8], k: u64) -> Normalised
             if centre == 0 {
                 return Normalised::NoData;
             }
-            let at = HEAD_WORDS + (2 * k) as usize;
+            let head = head_words(length_kind(n, bytes.len() as u64));
+            let at = head + (2 * k) as usize;
             let re = part_of(body, at, centre);
             let im = part_of(body, at + 1, centre);
             Normalised::Lag(Complex { re: re, im: im })

@@ -2,12 +2,11 @@
 use frame_codec::lags_within;
 use frame_codec::put_lags;
 use frame_codec::put_word;
-use frame_codec::put_words;
 use frame_codec::sum_words;
-use frame_header::HEAD_WORDS;
 use frame_header::fields_ok;
 use frame_header::frame_length;
-use frame_header::header_words;
+use frame_header::head_words;
+use frame_header::put_header;
 use lta_spec::Fields;
 use lta_spec::MARK;
 use lta_spec::PEAK;
@@ -22,7 +21,7 @@ ghost use lib.ListN.{length};
 ghost use Rattle.lta_spec.specs.Answer.{writtenAs};
 ghost use Rattle.lta_spec.specs.Words.{splice};
 ghost use Rattle.lta_spec.specs.Bytes.{bytesOf};
-ghost use Rattle.lta_spec.specs.Frame.{sealed, lagWords, header, fieldsOk};
+ghost use Rattle.lta_spec.specs.Frame.{headWords, sealed, lagWords, header, fieldsOk};
 ghost use Rattle.lta_spec.specs.FrameCalls.{writeVerdict, writeAnswer, writeLeaves};
 
 // What the writer says of its arguments: 1, 16, 10, or accepted.
@@ -33,7 +32,7 @@ fn write_verdict(n: u64, f: Fields, lags: &[i32], room: usize) -> Verdict
         return Verdict::Refused(Refusal::BadShape);
     }
     let count = 2 * n;
-    let length = frame_length(n);
+    let length = frame_length(f.kind, n);
     if !fields_ok(f) {
         return Verdict::Refused(Refusal::BadField);
     }
@@ -51,14 +50,15 @@ fn write_verdict(n: u64, f: Fields, lags: &[i32], room: usize) -> Verdict
 
 // The words of a frame, in the bytes behind its mark.
 fn put_body(body: &mut [u8], f: Fields, lags: &[i32])
-    requires { ⌜ (fieldsOk f ≡ true) × (4 * (8 + length (now lags)) ≤ length (now body)) ⌝ }
+    requires { ⌜ (fieldsOk f ≡ true)
+        × (4 * (headWords (f .kind) + length (now lags) + 1) ≤ length (now body)) ⌝ }
     ensures { λ _. ⌜ now (body .exit)
         ≡ splice (now (body .entry)) 0 (bytesOf (sealed (header f) (lagWords (now (lags .entry))))) ⌝ }
 {
-    let head = header_words(f);
-    put_words(&mut *body, 0, &head);
-    put_lags(&mut *body, HEAD_WORDS, lags);
-    let k = HEAD_WORDS + lags.len();
+    put_header(&mut *body, f);
+    let head = head_words(f.kind);
+    put_lags(&mut *body, head, lags);
+    let k = head + lags.len();
     let sum = sum_words(&*body, k);
     put_word(&mut *body, k, sum);
 }
@@ -74,7 +74,7 @@ pub fn write_frame(n: u64, f: Fields, lags: &[i32], out: &mut [u8]) -> Written
             out[0] = MARK[0];
             out[1] = MARK[1];
             put_body(&mut out[2..], f, lags);
-            Written::Length(frame_length(n))
+            Written::Length(frame_length(f.kind, n))
         }
     }
 }

@@ -47,6 +47,7 @@ pub fn refusal_code(r: Refusal) -> u32
         Refusal::WrongSum => 15,
         Refusal::BadField => 16,
         Refusal::BadRecord => 17,
+        Refusal::WrongBias => 18,
     }
 }
 
@@ -102,6 +103,7 @@ pub fn moved(a: Moved) -> Numbered
         Moved::Kept => Numbered::Number(0),
         Moved::Lost(l) => Numbered::Number(loss_number(l)),
         Moved::Idle => Numbered::Number(7),
+        Moved::Sent(n) => Numbered::Number(n),
         Moved::Refused(r) => Numbered::Refused(r),
     }
 }

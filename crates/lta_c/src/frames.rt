@@ -6,9 +6,9 @@ use host_values::store_fields;
 use host_values::store_pair;
 ghost use mathlib.Core.Path.{_≡_};
 ghost use lib.ListN.{length};
-ghost use Rattle.lta_spec.specs.FrameCalls.{lagPart, writeAnswer, writeLeaves};
+ghost use Rattle.lta_spec.specs.FrameCalls.{writeAnswer, writeLeaves};
 ghost use Rattle.host_pack.specs.Boundary.{fieldsIn, packed, stored, headIn, pairIn};
-ghost use Rattle.lta_c.specs.Answers.{readTold, normalTold};
+ghost use Rattle.lta_c.specs.Answers.{readTold, partTold, normalTold};
 
 // The fields of a frame.
 #[no_mangle]
@@ -20,12 +20,13 @@ pub extern "C" fn lta_read_frame(lags: u64, bytes: &[u8], head: &mut [u32]) -> u
     store_fields(frame::read_frame(lags, bytes), &mut *head)
 }
 
-// The length of the part of a frame that holds its lag pairs.
+// Where the part of a frame is that holds its lag pairs: 65,536 × offset + length.
 #[no_mangle]
 pub extern "C" fn lta_lag_part(lags: u64, bytes: &[u8]) -> u64
-    ensures { λ r. ⌜ r ≡ length (lagPart lags (now (bytes .entry))) ⌝ }
+    ensures { λ r. ⌜ r ≡ partTold lags (now (bytes .entry)) ⌝ }
 {
-    frame::lag_part(lags, bytes).len() as u64
+    let p = frame::lag_span(lags, bytes);
+    65536 * p.at + p.length
 }
 
 // The frame of ten fields and 2N lag numbers, at the start of out.

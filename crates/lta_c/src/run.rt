@@ -42,7 +42,7 @@ pub extern "C" fn lta_tick(shape: &[u64], mem: &mut [u64], samples: &[u8]) -> u6
     pack(ticked(lta::tick(shape_of(shape), &mut *mem, samples)))
 }
 
-// A dump of one cell.
+// A dump of one cell; a speed dump puts its frame into the front of out.
 #[no_mangle]
 pub extern "C" fn lta_dump(
     shape: &[u64],
@@ -51,13 +51,27 @@ pub extern "C" fn lta_dump(
     command: u64,
     bank: u64,
     phase: u64,
+    out: &mut [u8],
 ) -> u64
     ensures answer { λ r. ⌜ r
-        ≡ packed ((step (shapeOf (now (shape .entry))) (dump cell command bank phase) (now (mem .entry))) .answer) ⌝ }
+        ≡ packed ((step (shapeOf (now (shape .entry))) (dump cell command bank phase (now (out .entry)))
+        (now (mem .entry))) .answer) ⌝ }
+    ensures frame { λ _. ⌜ now (out .exit)
+        ≡ (step (shapeOf (now (shape .entry))) (dump cell command bank phase (now (out .entry))) (now (mem .entry)))
+        .out ⌝ }
     ensures leaves { λ _. ⌜ now (mem .exit)
-        ≡ (step (shapeOf (now (shape .entry))) (dump cell command bank phase) (now (mem .entry))) .mem ⌝ }
+        ≡ (step (shapeOf (now (shape .entry))) (dump cell command bank phase (now (out .entry))) (now (mem .entry)))
+        .mem ⌝ }
 {
-    pack(moved(lta::dump(shape_of(shape), &mut *mem, cell, command, bank, phase)))
+    pack(moved(lta::dump(
+        shape_of(shape),
+        &mut *mem,
+        cell,
+        command,
+        bank,
+        phase,
+        &mut *out,
+    )))
 }
 
 // An integration of one cell.

@@ -4,9 +4,9 @@ use Rattle.lta_spec.specs.Words.{part}
 use Rattle.lta_spec.specs.Shape.{lagCountOk, shapeOk}
 use Rattle.lta_spec.specs.Size.{memoryWords, hostTests}
 use Rattle.lta_spec.specs.Page.{pageLength}
-use Rattle.lta_spec.specs.Frame.{fieldsOf, fixedOk, fieldsOk}
+use Rattle.lta_spec.specs.Frame.{lengthKind, fieldsOf, fixedOk, fieldsOk, biasOk}
 use Rattle.lta_spec.specs.FrameCalls.{marked, summed, ruled, readVerdict, writeVerdict, normalVerdict}
-use Rattle.lta_spec.specs.Call.{commandOk, phaseOk, emittedFields}
+use Rattle.lta_spec.specs.Call.{commandOk, dumpFits, phaseOk, emittedFields}
 use Rattle.lta_spec.specs.Row.{rowOk}
 use Rattle.lta_spec.specs.Engine as E
 use Rattle.lta_spec.specs.Damage as D
@@ -17,10 +17,11 @@ use Rattle.lta_spec.specs.AnswerOrder.{Orders}
 
 pub orders : Orders
 unfolding
-    lagCountOk shapeOk memoryWords hostTests part fieldsOf fixedOk fieldsOk marked summed ruled readVerdict
-    writeVerdict normalVerdict emittedFields commandOk phaseOk rowOk E.binAt E.hasRoom E.forecastOf E.tickBy
-    E.tickUnit E.resets E.offsetAfter E.counted E.dumpBy E.dumpCell E.holdOpen S.tickUnits S.heldOff S.withDump
-    S.accepted D.counterOk D.dumpUnitSound D.lossesOk D.tickSound D.dumpHolds D.dumpParts D.dumpSound
+    lagCountOk shapeOk memoryWords hostTests part lengthKind fieldsOf fixedOk fieldsOk biasOk marked summed ruled
+    readVerdict writeVerdict normalVerdict emittedFields commandOk dumpFits phaseOk rowOk E.binAt E.hasRoom E.forecastOf
+    E.tickBy E.tickUnit E.resets E.offsetAfter E.keptAs E.counted E.dumpBy E.dumpCell E.holdOpen E.sendOpen S.tickUnits
+    S.heldOff S.withDump S.rowFrame S.sends S.dumpsBy S.accepted D.counterOk D.dumpUnitSound D.lossesOk D.tickSound
+    D.dumpHolds D.dumpParts D.losesNone D.dumpSound
     D.integrateHolds D.integrateBinSound D.integrateSound D.emitSound D.pageSound pageLength word
     block pair many fields binL unitL
     runL S.verdict S.step
@@ -30,6 +31,12 @@ orders =
       sampler-last = refl;
       commander = refl;
       commander-last = refl;
+      commands = refl;
+      speeder = refl;
+      speeder-damage = refl;
+      speeder-last = refl;
+      speeder-others = refl;
+      speeder-losses = refl;
       counter-block = refl;
       counter-command = refl;
       counter-others = refl;
@@ -47,5 +54,10 @@ orders =
       pager-losses = refl;
       sender = refl;
       normaliser = refl;
+      sender-kinds = refl;
+      sender-takes = refl;
+      normaliser-kinds = refl;
       writer = refl;
+      writer-kinds = refl;
+      writer-room = refl;
     }

@@ -1,12 +1,12 @@
 -- The block counter: the engine's step is the machine's, and the block stays one of S to S + M - 1.
 use Prim.Native.Nat.{ℕ, zero, suc, _+_, _*_, _-_, _≤_, _<_}
-use mathlib.Core.Path.{_≡_, refl, ap}
+use mathlib.Core.Path.{_≡_, refl, sym, ap, _∙_, subst}
 use mathlib.Core.Bool.{Bool, true, false, cond, _&&_, _||_}
 use native.Mathlib.Nat.{suc-mul}
 use native.Mathlib.Omega.{arith}
 use lib.Dec.{leb, ltb, eqb}
 use borrow.Author.Tests.{leb-true, ltb-true, eqb-true, eqb-false, ne-eqb, lt-ltb, le-ltb, le-leb, lt-leb}
-use Rattle.lta_spec.specs.Call.{save, add, last, discard, idle, commandOk, phaseOk}
+use Rattle.lta_spec.specs.Call.{save, add, last, speed, discard, idle, commandOk, phaseOk}
 use Rattle.lta_spec.specs.Machine as M
 use Rattle.lta_spec.specs.Machine.{LastCommand}
 use Rattle.lta_spec.specs.Machine.LastCommand.{none, was}
@@ -55,15 +55,30 @@ returns-same command (was c) =
     rw (ne-eqb (suc c) 0 (λ e. omega arith))
     (ap (λ b. eqb command discard || (eqb command last && b)) (save-or-add c))
 
--- an accepted command but 111 is known as a last command
-command-known : (c : ℕ) → commandOk c ≡ true → eqb c idle ≡ false → known (suc c) ≡ true
+-- the commands whose label Held gets
+pub command-kept : (c : ℕ) → commandOk c ≡ true → eqb c speed ≡ false → eqb c idle ≡ false → eqb c discard ≡ false
+    → c ≤ last
 unfolding commandOk
-command-known c ok i = by-test (leb c last) (eqb c discard) refl refl (rw i at ok)
+command-kept c ok s p q = by-test (leb c discard) refl (rw p at ok)
   where
-    by-test : (a b : Bool) → leb c last ≡ a → eqb c discard ≡ b → a || (b || false) ≡ true → known (suc c) ≡ true
-    by-test true b p q h = rw (le-leb (suc c) (suc last) (omega (arith, leb-true c last p)))
-    by-test false true p q h = ap (λ x. known (suc x)) (eqb-true c discard q)
-    by-test false false p q h = let z : _≡_ {A = ℕ} 0 1 = cc in absurd (omega arith)
+    by-test : (b : Bool) → leb c discard ≡ b → b || false ≡ true → c ≤ last
+    by-test true e h =
+        let low : c ≤ discard = leb-true c discard e in
+        let other : c ≡ discard → ⊥ = eqb-false c discard q in
+        let slow : c ≡ speed → ⊥ = eqb-false c speed s in
+        omega arith
+    by-test false e h = let z : _≡_ {A = ℕ} 0 1 = cc in absurd (omega arith)
+
+-- what an accepted command but 111 counts as is known as a last command
+command-known : (c : ℕ) → commandOk c ≡ true → eqb (M.countsAs c) idle ≡ false → known (suc (M.countsAs c)) ≡ true
+unfolding M.countsAs
+command-known c ok = by-test (eqb c speed) (eqb c discard) refl refl
+  where
+    by-test : (a d : Bool) → eqb c speed ≡ a → eqb c discard ≡ d → eqb (cond a add c) idle ≡ false
+        → known (suc (cond a add c)) ≡ true
+    by-test true d p r i = refl
+    by-test false true p r i = ap (λ x. known (suc x)) (eqb-true c discard r)
+    by-test false false p r i = rw (le-leb (suc c) (suc last) (omega (arith, command-kept c ok p i r)))
 
 module _ (start blocks : ℕ) (k : M.Counter) (s : CounterSound start blocks k) where
   -- one on
@@ -93,12 +108,12 @@ module _ (start blocks : ℕ) (k : M.Counter) (s : CounterSound start blocks k) 
           let off : k .block ≡ start + blocks - 1 → ⊥ = eqb-false _ _ e in
           (omega (arith, s .low), omega (arith, s .high))
 
-  -- the step of a dump
-  pub counted-same : (command : ℕ)
+  -- the step of a dump with a command other than 011
+  plain-same : (command : ℕ) → eqb command speed ≡ false
       → stored start (M.counted start blocks command k) ≡ E.counted blocks command (stored start k)
-  unfolding M.counted E.counted E.offsetAfter
-  counted-same command =
-      rw (← on-same, ← returns-same command (k .lastCommand))
+  unfolding M.counted E.counted E.offsetAfter E.keptAs
+  plain-same command plain =
+      rw (plain, ← on-same, ← returns-same command (k .lastCommand))
       (by-test (eqb command idle) (M.returns command (k .lastCommand)))
     where
       by-test : (i r : Bool)
@@ -111,20 +126,40 @@ module _ (start blocks : ℕ) (k : M.Counter) (s : CounterSound start blocks k) 
       by-test false true = ap (λ o. record { offset = o; lastCode = suc command }) (omega arith)
       by-test false false = refl
 
-  pub counted-sound : (command : ℕ) → commandOk command ≡ true
+  as-add : E.counted blocks add (stored start k) ≡ E.counted blocks speed (stored start k)
+  unfolding E.counted E.offsetAfter E.resets E.keptAs
+  as-add = refl
+
+  -- the step of a dump: 011 as 001
+  pub counted-same : (command : ℕ)
+      → stored start (M.counted start blocks (M.countsAs command) k) ≡ E.counted blocks command (stored start k)
+  unfolding M.countsAs
+  counted-same command = by-test (eqb command speed) refl
+    where
+      by-test : (b : Bool) → eqb command speed ≡ b
+          → stored start (M.counted start blocks (cond b add command) k) ≡ E.counted blocks command (stored start k)
+      by-test true e =
+          plain-same add refl
+          ∙ subst (λ c. E.counted blocks add (stored start k) ≡ E.counted blocks c (stored start k))
+          (sym (eqb-true command speed e)) as-add
+      by-test false e = plain-same command e
+
+  plain-sound : (command : ℕ) → (eqb command idle ≡ false → known (suc command) ≡ true)
       → CounterSound start blocks (M.counted start blocks command k)
   unfolding M.counted
-  counted-sound command ok = by-test (eqb command idle) (M.returns command (k .lastCommand)) refl
+  plain-sound command code = by-test (eqb command idle) (M.returns command (k .lastCommand)) refl
     where
       by-test : (i r : Bool) → eqb command idle ≡ i
           → CounterSound start blocks
           (cond i k
           (record { block = cond r start (M.oneOn start blocks (k .block)); lastCommand = was command }))
       by-test true r e = s
-      by-test false true e =
-          record { low = omega arith; high = omega (arith, s .low, s .high); command = command-known command ok e }
-      by-test false false e =
-          record { low = on-sound .0; high = on-sound .1; command = command-known command ok e }
+      by-test false true e = record { low = omega arith; high = omega (arith, s .low, s .high); command = code e }
+      by-test false false e = record { low = on-sound .0; high = on-sound .1; command = code e }
+
+  pub counted-sound : (command : ℕ) → commandOk command ≡ true
+      → CounterSound start blocks (M.counted start blocks (M.countsAs command) k)
+  counted-sound command ok = plain-sound (M.countsAs command) (command-known command ok)
 
   pub counter-ok : D.counterOk blocks (stored start k) ≡ true
   unfolding D.counterOk
@@ -140,7 +175,7 @@ offset-below blocks command k ok =
   where
     by-test : (i r b : Bool) → ltb (suc (k .offset)) blocks ≡ b → k .offset < blocks
         → let next = cond r 0 (cond b (suc (k .offset)) 0) in
-        (cond i k (record { offset = next; lastCode = suc command })) .offset < blocks
+        (cond i k (record { offset = next; lastCode = suc (E.keptAs command) })) .offset < blocks
     by-test true r b e h = h
     by-test false true b e h = omega arith
     by-test false false true e h = ltb-true (suc (k .offset)) blocks e

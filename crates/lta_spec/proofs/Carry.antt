@@ -83,6 +83,10 @@ module _ (n : ℕ) (xs ys : List ℕ) where
   dump-carry l t c =
       dumpBy-carry (eqb (l .command) idle) (eqb (l .command) discard) (eqb (c .held .occupied) 1) l t c
 
+  pub send-carry : (t : ℕ) (c : Cell Ticks) → mapCell row (M.sendOpen t c) ≡ E.sendOpen n t (mapCell row c)
+  unfolding M.sendOpen E.sendOpen mapCell mapStamped
+  send-carry t c = refl
+
   pub bin-carry : (k : ℕ) (c : Cell Ticks) → E.binAt n k (mapCell row c) ≡ mapBin row (M.binAt k c)
   unfolding E.binAt M.binAt mapCell mapBin mapStamped
   bin-carry k c = List·getD-map (mapBin row) (c .bins) k M.freeBin

@@ -10,10 +10,12 @@ use borrow.Author.Tests.{eq-eqb}
 use Rattle.lta_spec.specs.Refusals.{Test, refusalNumber, firstOf, decided}
 use Rattle.lta_spec.specs.Size.{memoryWords, hostTests}
 use Rattle.lta_spec.specs.Words.{every}
-use Rattle.lta_spec.specs.Call.{Call, lentTo}
+use Rattle.lta_spec.specs.Place.{Label}
+use Rattle.lta_spec.specs.Call.{Call, lentTo, speed}
 use Rattle.lta_spec.specs.Call.Call.{tick, dump, integrate, emit, reading, forecast, page}
 use Rattle.lta_spec.specs.Answer.{refusal}
 use Rattle.lta_spec.specs.Answer.Answer.{refused}
+use Rattle.lta_spec.specs.Machine.{Counter}
 use Rattle.lta_spec.specs.MachineRun as R
 use Rattle.lta_spec.specs.Demand.{Listed, Returned, machineStep, machineReturns}
 use Rattle.lta_spec.specs.Demand.Listed.{onRun, onOther}
@@ -49,7 +51,7 @@ tests-other : (sh : Shape) (r : R.Run) (words : ℕ) (call : Call)
     → others (hostTests sh words ++ R.callTests sh r call) ≡ true
 unfolding hostTests
 tests-other sh r words (tick samples) = refl
-tests-other sh r words (dump c command bank phase) = refl
+tests-other sh r words (dump c command bank phase out) = refl
 tests-other sh r words (integrate c) = refl
 tests-other sh r words (emit c bank bin out) = refl
 tests-other sh r words (reading c lag loss) = refl
@@ -57,10 +59,16 @@ tests-other sh r words (forecast c) = refl
 tests-other sh r words (page out) = refl
 
 -- an accepted call answers a number or an entry
+dump-other : (b : Bool) (sh : Shape) (c : ℕ) (l : Label) (k : Counter) (out : List ℕ) (r : R.Run)
+    → (R.dumpsBy b sh c l k out r) .answer ≡ refused 11 → ⊥
+unfolding R.dumpsBy R.sends
+dump-other true sh c l k out r e = let z : _≡_ {A = ℕ} 0 1 = cc in omega arith
+dump-other false sh c l k out r e = let z : _≡_ {A = ℕ} 0 1 = cc in omega arith
+
 accepted-other : (sh : Shape) (call : Call) (r : R.Run) → (R.accepted sh call r) .answer ≡ refused 11 → ⊥
-unfolding R.accepted
+unfolding R.accepted R.sends
 accepted-other sh (tick samples) r e = let z : _≡_ {A = ℕ} 0 1 = cc in omega arith
-accepted-other sh (dump c command bank phase) r e = let z : _≡_ {A = ℕ} 0 1 = cc in omega arith
+accepted-other sh (dump c command bank phase out) r e = dump-other (eqb command speed) sh c _ _ out r e
 accepted-other sh (integrate c) r e = let z : _≡_ {A = ℕ} 0 1 = cc in omega arith
 accepted-other sh (emit c bank bin out) r e = let z : _≡_ {A = ℕ} 0 1 = cc in omega arith
 accepted-other sh (reading c lag loss) r e = let z : _≡_ {A = ℕ} 0 1 = cc in omega arith

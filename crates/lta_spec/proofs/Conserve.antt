@@ -78,6 +78,11 @@ module _ (f : ℕ → ℕ) where
     unfolding M.dumpCell
     dump-total l t e = dumpBy-total _ _ _ l t e
 
+    pub send-total : (t : ℕ)
+        → overCell (tally f) (M.sendOpen t c) + tally f (c .opened .members) ≡ overCell (tally f) c
+    unfolding M.sendOpen
+    send-total t = omega arith
+
     module _ (k : ℕ) (hk : k < length (c .bins)) where
       bin-set : (b : Bin Ticks)
           → overAll (λ b. tally f (b .content .members)) (set (c .bins) k b) + tally f ((M.binAt k c) .content .members)

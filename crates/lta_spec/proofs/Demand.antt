@@ -136,12 +136,12 @@ demand3 sh ok cs stand =
     ap ((runL sh) .get) (f .mem) ∙ loaded sh (f .run) m (f .same) in
     let at : (c : ℕ) → c < sh .cells → Same sh (m .t) (S.unitAt sh c (f .run)) (R.unitAt sh c m) =
     unit-same sh (f .run) m (f .same) in
-    let returned : (c : ℕ) → List (List ℕ) = λ c. framesReturned (sh .lags) c cs (engineReturns sh cs (freshMem sh)) in
+    let returned : (c : ℕ) → List (List ℕ) = λ c. framesReturned c cs (engineReturns sh cs (freshMem sh)) in
     let sent : (c : ℕ) → c < sh .cells → returned c
     ≡ map (setFrame sh c ((R.unitAt sh c m) .xs) ((R.unitAt sh c m) .ys)) ((R.unitAt sh c m) .frames) =
     λ c h.
-    ap (framesReturned (sh .lags) c cs) (f .tells)
-    ∙ sym (append-nil (framesReturned (sh .lags) c cs (machineReturns sh cs (R.start sh))))
+    ap (framesReturned c cs) (f .tells)
+    ∙ sym (append-nil (framesReturned c cs (machineReturns sh cs (R.start sh))))
     ∙ list-framed sh (k .some-lags) cs stand (W.start sh) (R.start sh) fresh c h []
     (λ gx gy. rw (none-sent sh (sh .cells) c)) [] [] in
     let back : (c : ℕ) → (h : c < sh .cells)

@@ -23,9 +23,9 @@ use Rattle.lta_spec.specs.Words.{part}
 use Rattle.lta_spec.specs.Place.{Label, Cell}
 use Rattle.lta_spec.specs.Decimal.{decimalWithin, decimal, rightAligned}
 use Rattle.lta_spec.specs.Page.{countsSum, pageLine, cellLines, ledgerLines, pageOf, pageLength}
-use Rattle.lta_spec.specs.Frame.{sealed, frameOf, header, fieldsOf, fixedOk, fieldsOk}
+use Rattle.lta_spec.specs.Frame.{sealed, frameOf, header, lengthKind, fieldsOf, fixedOk, fieldsOk, biasOk}
 use Rattle.lta_spec.specs.FrameCalls.{marked, summed, ruled, normalVerdict}
-use Rattle.lta_spec.specs.Call.{discard, commandOk, phaseOk, emittedFields}
+use Rattle.lta_spec.specs.Call.{discard, commandOk, dumpFits, phaseOk, emittedFields}
 use Rattle.lta_spec.specs.Machine as M
 use Rattle.lta_spec.specs.Machine.{Ticks}
 use Rattle.lta_spec.specs.Numbers as N
@@ -41,12 +41,12 @@ machine-returned : (machineReturns scriptShape script (R.start scriptShape) ≡ 
     × (machineReturns workedShape (callsOf workedRun) (R.start workedShape) ≡ returnedBy workedRun)
 unfolding
     lagCountOk shapeOk memoryWords hostTests fromByte product weight inPhase quadrature validAt inPhaseAt
-    quadratureAt sealed frameOf header commandOk phaseOk emittedFields M.lose M.hasRoom M.tickBy M.tickCell
-    M.forecastOf M.loseOpen M.holdOpen M.dumpBy M.dumpCell M.returns M.oneOn M.counted M.release M.stateAfter
-    M.stampAfter M.integrateBy M.binAt M.integrateAt M.integrateCell M.emptyBin N.upTo N.inPhaseSum
+    quadratureAt sealed frameOf header commandOk dumpFits phaseOk emittedFields M.lose M.hasRoom M.tickBy M.tickCell
+    M.forecastOf M.loseOpen M.holdOpen M.dumpBy M.dumpCell M.sendOpen M.countsAs M.returns M.oneOn M.counted M.release
+    M.stateAfter M.stampAfter M.integrateBy M.binAt M.integrateAt M.integrateCell M.emptyBin N.upTo N.inPhaseSum
     N.quadratureSum N.validCount N.setCounts N.setFrame decimalWithin decimal rightAligned countsSum pageLine
     cellLines ledgerLines pageOf pageLength R.lossPage R.verdict R.tickUnits R.heldOff R.withDump R.withCell R.emitted
-    R.withFrame R.accepted R.step machineReturns
+    R.speedSent R.withFrame R.sends R.dumpsBy R.accepted R.step machineReturns
 machine-returned = (refl, refl)
 
 -- the engine returns what the machine returns: demand 3
@@ -84,7 +84,7 @@ unfolding
     fromByte product weight inPhase quadrature phaseOk M.tickCell M.tickBy M.hasRoom E.tickBy E.hasRoom
     M.integrateAt M.integrateBy M.stateAfter M.stampAfter E.integrateAt E.integrateBy M.dumpBy M.dumpCell M.release
     M.binAt M.emptyBin M.forecastOf E.forecastOf lagCountOk normalVerdict marked summed ruled fieldsOf fixedOk
-    fieldsOk part
+    fieldsOk lengthKind biasOk part
 edges =
     record {
       p1-machine = machine-returned .0;

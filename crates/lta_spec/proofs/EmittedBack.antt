@@ -1,55 +1,56 @@
--- The bytes of an emission, read back, are what stood in the bin; and with that the whole statement of the round
--- trips.
-use Prim.Native.Nat.{ℕ, suc, _≤_, _<_}
+-- The bytes of an emission and of a speed dump, read back, are what stood in the bin or in Open; and with that the
+-- whole statement of the round trips.
+use Prim.Native.Nat.{ℕ, suc, _%_, _≤_, _<_}
 use mathlib.Core.Path.{_≡_, sym, ap, _∙_, refl}
-use mathlib.Core.Bool.{true, _&&_}
-use mathlib.Core.List.{List, [], _∷_}
+use mathlib.Core.Bool.{true}
+use mathlib.Core.List.{List, [], _∷_, _++_}
 use native.Mathlib.Nat.{mod-lt, div-le-self}
 use native.Mathlib.Omega.{arith}
-use lib.Dec.{leb, ltb, eqb}
+use lib.Dec.{leb}
 use lib.IntN.{ℤ}
-use lib.ListN.{length, drop, length-drop}
-use borrow.Author.Tests.{leb-true, ltb-true, eqb-true}
-use Rattle.lta_spec.specs.Words.{every}
-use Rattle.lta_spec.specs.Refusals.{firstOf}
-use Rattle.lta_spec.specs.Shape.{shapeTests, shapeOk, lagCountOk, runLimit, binLimit}
-use Rattle.lta_spec.specs.Size.{rowWords, memoryWords, hostTests}
-use Rattle.lta_spec.specs.Place.{Stamped, ready}
-use Rattle.lta_spec.specs.Frame.{accumulated, frameLength}
-use Rattle.lta_spec.specs.FrameCalls.{writeVerdict}
-use Rattle.lta_spec.specs.Call.{bankOk, binIndex, emittedFields}
-use Rattle.lta_spec.specs.Call.Call.{emit}
+use lib.ListN.{length, getD, take, drop, length-drop, length-append}
+use borrow.Author.Tests.{leb-true, le-leb}
+use Rattle.lta_spec.specs.Words.{splice, every}
+use Rattle.lta_spec.specs.Shape.{shapeTests, shapeOk, lagCountOk, runLimit, openLimit, binLimit}
+use Rattle.lta_spec.specs.Size.{rowWords, memoryWords}
+use Rattle.lta_spec.specs.Place.{Stamped}
+use Rattle.lta_spec.specs.Bytes.{wordsOf}
+use Rattle.lta_spec.specs.Frame.{accumulated, speedFrame, frameLength, bodyOf, fieldsOf, kindOk}
+use Rattle.lta_spec.specs.FrameCalls.{kindBy, readVerdict, writeVerdict}
+use Rattle.lta_spec.specs.Call.{speed, dumpFits, binIndex, emittedFields}
+use Rattle.lta_spec.specs.Call.Call.{dump, emit}
 use Rattle.lta_spec.specs.Row.{ticksOf, edgeOf, centreOf, rowLags, sumOk, rowOk}
 use Rattle.lta_spec.specs.Engine.{Row, binAt, freeBin, freshUnit}
 use Rattle.lta_spec.specs.Damage.{contentOk, emitSound}
 use Rattle.lta_spec.specs.Memory.{runL}
 use Rattle.lta_spec.specs.Step as S
-use Rattle.lta_spec.specs.RoundTrip.{RoundTrip, RowBack, storedBin, emittedTo}
+use Rattle.lta_spec.specs.RoundTrip.{RoundTrip, RowBack, storedBin, emittedTo, storedOpen, speedBin, speedTo}
 use Rattle.lta_spec.specs.declared.Fields.{Fields}
 use Rattle.lta_spec.specs.declared.Shape.{Shape}
 use Rattle.lta_spec.specs.declared.Verdict.the-variants as verdict
 use Rattle.lta_spec.proofs.WordLaws.{take-splice}
 use Rattle.lta_spec.proofs.ByteLaws.{below-all}
-use Rattle.lta_spec.proofs.TestLaws.{and-both, and-le, pass, pass-both, first-append}
-use Rattle.lta_spec.proofs.ShapeLaws.{all-at, Shaped, shaped}
-use Rattle.lta_spec.proofs.RoundTrips.{Valid, fields-ok, written, length-written}
+use Rattle.lta_spec.proofs.TestLaws.{and-both, and-le}
+use Rattle.lta_spec.proofs.ShapeLaws.{all-at, Shaped, shaped, index-below}
+use Rattle.lta_spec.proofs.RoundTrips.{Valid, fields-ok, accepted, head-least, written, length-written}
 use Rattle.lta_spec.proofs.RoundTrips.{read-written, lags-read, leaves-read, leaves-lags, leaves-again}
 use Rattle.lta_spec.proofs.Encoding.{sums-within}
 use Rattle.lta_spec.proofs.LayoutLaws.{all-get}
 use Rattle.lta_spec.proofs.MemoryLaws.{UnitOk, BinOk, run-law, run-width}
-use Rattle.lta_spec.proofs.ShapeLaws.{index-below}
+use Rattle.lta_spec.proofs.Passed.{shape-passed, words-passed, DumpPassed, dump-passed, EmitPassed, emit-passed}
+use Rattle.lta_spec.proofs.Passed.{open-tested}
 
 -- the fields of a frame of a row and a stamp within their limits
-pub emitted-valid : (sh : Shape) → Shaped sh → (c bank bin stamp : ℕ) (row : Row) → c < sh .cells → bank < 2
-    → bin < sh .bins → stamp ≤ runLimit → rowOk binLimit row ≡ true
-    → Valid (emittedFields sh c bank bin stamp (ticksOf row) (edgeOf row) (centreOf row))
+pub emitted-valid : (sh : Shape) → Shaped sh → (kind c bank bin stamp : ℕ) (row : Row) → kindOk kind ≡ true
+    → c < sh .cells → bank < 2 → bin < sh .bins → stamp ≤ runLimit → rowOk binLimit row ≡ true
+    → Valid (emittedFields sh kind c bank bin stamp (ticksOf row) (edgeOf row) (centreOf row))
 unfolding emittedFields rowOk
-emitted-valid sh k c bank bin stamp row hc hk hb hs ok =
+emitted-valid sh k kind c bank bin stamp row known hc hk hb hs ok =
     let t = and-le (ticksOf row) binLimit _ ok in
     let g = and-le (edgeOf row) (ticksOf row) _ (t .1) in
     let m = and-le (centreOf row) (ticksOf row) _ (g .1) in
     record {
-      kind = refl;
+      kind = known;
       cell = omega (arith, k .cells);
       block = omega (arith, k .blocks, mod-lt bin (k .some-blocks));
       bin = omega (arith, k .bins);
@@ -66,14 +67,14 @@ pub length-lags : (ticks : ℕ) (ws : List ℕ) → length (rowLags ticks ws) �
 length-lags ticks [] = refl
 length-lags ticks (w ∷ ws) = ap suc (length-lags ticks ws)
 
-module _ (sh : Shape) (ok : shapeOk sh ≡ true) (c bank bin : ℕ) (b : Stamped Row) (hc : c < sh .cells) (hk : bank < 2)
-    (hb : bin < sh .bins) (size : length (b .members) ≡ rowWords (sh .lags)) (hs : b .stamp ≤ runLimit)
-    (limited : rowOk binLimit (b .members) ≡ true) where
+module _ (sh : Shape) (ok : shapeOk sh ≡ true) (kind c bank bin : ℕ) (b : Stamped Row) (known : kindOk kind ≡ true)
+    (hc : c < sh .cells) (hk : bank < 2) (hb : bin < sh .bins) (size : length (b .members) ≡ rowWords (sh .lags))
+    (hs : b .stamp ≤ runLimit) (limited : rowOk binLimit (b .members) ≡ true) where
   abbrev row : Row
   row = b .members
 
   abbrev sent : Fields
-  sent = emittedFields sh c bank bin (b .stamp) (ticksOf row) (edgeOf row) (centreOf row)
+  sent = emittedFields sh kind c bank bin (b .stamp) (ticksOf row) (edgeOf row) (centreOf row)
 
   abbrev lags : List ℤ
   lags = rowLags (ticksOf row) (drop 3 row)
@@ -98,14 +99,15 @@ module _ (sh : Shape) (ok : shapeOk sh ≡ true) (c bank bin : ℕ) (b : Stamped
       written (sh .lags) sent lags room
       (record {
         count = counted;
-        fields = fields-ok sent (emitted-valid sh (shaped sh ok) c bank bin (b .stamp) row hc hk hb hs limited);
+        fields =
+            fields-ok sent (emitted-valid sh (shaped sh ok) kind c bank bin (b .stamp) row known hc hk hb hs limited);
         length = length-lags (ticksOf row) (drop 3 row) ∙ omega (arith, length-drop 3 row);
         lags = sym (sums-within (ticksOf row) (drop 3 row)) ∙ sums-fit;
         fits = omega arith;
       })
 
   -- a frame of fields and a row within their limits is read back as they are
-  pub row-back : RowBack sh c bank bin b (S.rowFrame sh c bank bin b)
+  pub row-back : RowBack sh kind c bank bin b (S.rowFrame sh kind c bank bin b)
   unfolding S.rowFrame
   row-back =
       record {
@@ -113,93 +115,119 @@ module _ (sh : Shape) (ok : shapeOk sh ≡ true) (c bank bin : ℕ) (b : Stamped
         lags = lags-read (sh .lags) sent lags room writable;
       }
 
-  pub row-length : length (S.rowFrame sh c bank bin b) ≡ frameLength accumulated (sh .lags)
-  unfolding S.rowFrame
+  pub row-length : length (S.rowFrame sh kind c bank bin b) ≡ frameLength kind (sh .lags)
+  unfolding S.rowFrame emittedFields
   row-length = length-written (sh .lags) sent lags room writable
 
--- what is written at the start of a buffer with room is what stands there
+  -- and so is what stands of it at the start of a buffer with room
+  sent-back : (out : List ℕ) → frameLength kind (sh .lags) ≤ length out
+      → RowBack sh kind c bank bin b
+      (take (frameLength kind (sh .lags)) (splice out 0 (S.rowFrame sh kind c bank bin b)))
+  sent-back out fits = rw (take-splice out (S.rowFrame sh kind c bank bin b) _ row-length fits) row-back
+
+-- a row within its limits is within wider ones
+pub row-wider : (a b : ℕ) (row : Row) → a ≤ b → rowOk a row ≡ true → rowOk b row ≡ true
+unfolding rowOk
+row-wider a b row h ok =
+    let t = and-le (ticksOf row) a _ ok in rw (le-leb (ticksOf row) b (omega (arith, t .0)), t .1)
+
+-- work memory of the right length: cell c of its run has its words
+unit-sized : (sh : Shape) (mem : List ℕ) (c : ℕ) → length mem ≡ memoryWords sh → c < sh .cells
+    → UnitOk (sh .lags) (sh .bins) (S.unitAt sh c ((runL sh) .get mem))
+unit-sized sh mem c words inside =
+    let n = sh .lags in
+    let B = sh .bins in
+    let ok = (run-law sh) .fits mem (omega (arith, run-width sh, words)) in
+    all-get (UnitOk n B) (((runL sh) .get mem) .units) (freshUnit n B) (ok .1 .1) c (omega (arith, ok .1 .0, inside))
+
 -- an accepted emission
 module _ (sh : Shape) (c bank bin : ℕ) (mem out : List ℕ)
     (v : S.verdict sh mem (emit c bank bin out) ≡ verdict.Accepted) where
-  abbrev k : ℕ
-  k = binIndex (sh .bins) bank bin
-
   abbrev stored : Stamped Row
   stored = storedBin sh c bank bin mem
 
-  tests : (firstOf (hostTests sh (length mem)) ≡ verdict.Accepted)
-      × (firstOf (S.callTests sh (emit c bank bin out) ((runL sh) .get mem)) ≡ verdict.Accepted)
-  unfolding S.verdict
-  tests = pass-both (firstOf (hostTests sh (length mem))) _ (sym (first-append (hostTests sh (length mem)) _) ∙ v)
-
-  shape-ok : shapeOk sh ≡ true
-  unfolding hostTests
-  shape-ok = pass (shapeOk sh) _ _ (tests .0) .0
-
-  words : length mem ≡ memoryWords sh
-  unfolding hostTests
-  words = eqb-true _ _ (pass (eqb (length mem) (memoryWords sh)) _ _ (pass (shapeOk sh) _ _ (tests .0) .1) .0)
-
-  -- what the call's own tests showed
-  pub record Passed : Type 0 where
-    pub inCells : c < sh .cells
-    pub inBanks : bank < 2
-    pub inBins : bin < sh .bins
-    pub time : ((runL sh) .get mem) .t ≤ runLimit
-    pub sound : emitSound (sh .lags) (((runL sh) .get mem) .t) k (S.cellAt sh c ((runL sh) .get mem)) ≡ true
-    pub room : frameLength accumulated (sh .lags) ≤ length out
-
-  pub passed : Passed
-  passed =
-      let r = (runL sh) .get mem in
-      let x = pass (ltb c (sh .cells)) _ _ (tests .1) in
-      let y = pass (bankOk bank && ltb bin (sh .bins)) _ _ (x .1) in
-      let z = pass (leb (r .t) runLimit && emitSound (sh .lags) (r .t) k (S.cellAt sh c r)) _ _ (y .1) in
-      let q = pass (eqb ((binAt (sh .lags) k (S.cellAt sh c r)) .state) ready) _ _ (z .1) in
-      let w = pass (leb (frameLength accumulated (sh .lags)) (length out)) _ _ (q .1) in
-      let named = and-both (bankOk bank) _ (y .0) in
-      let t = and-le (r .t) runLimit _ (z .0) in
-      record {
-        inCells = ltb-true c (sh .cells) (x .0);
-        inBanks = ltb-true bank 2 (named .0);
-        inBins = ltb-true bin (sh .bins) (named .1);
-        time = t .0;
-        sound = t .1;
-        room = leb-true _ _ (w .0);
-      }
+  passed : EmitPassed sh mem c bank bin (length out)
+  passed = emit-passed sh mem c bank bin out v
 
   -- the row and the stamp of the bin are within their limits
   limits : (rowOk binLimit (stored .members) ≡ true) × (stored .stamp ≤ runLimit)
   unfolding emitSound
   limits =
-      let p = passed in
       let r = (runL sh) .get mem in
-      let content = and-both (contentOk binLimit (r .t) stored) _ (p .sound) .0 in
+      let content = and-both (contentOk binLimit (r .t) stored) _ (passed .sound) .0 in
       let s = and-both (rowOk binLimit (stored .members)) _ content in
-      (s .0, omega (arith, p .time, leb-true (stored .stamp) (r .t) (s .1)))
+      (s .0, omega (arith, passed .time, leb-true (stored .stamp) (r .t) (s .1)))
 
   -- the row of a bin has its words
   long : length (stored .members) ≡ rowWords (sh .lags)
   unfolding binAt
   long =
-      let n = sh .lags in
-      let B = sh .bins in
-      let p = passed in
-      let ok = (run-law sh) .fits mem (omega (arith, run-width sh, words)) in
-      let r = (runL sh) .get mem in
-      let u = all-get (UnitOk n B) (r .units) (freshUnit n B) (ok .1 .1) c (omega (arith, ok .1 .0, p .inCells)) in
-      let inside = index-below B bank bin (p .inBanks) (p .inBins) in
-      all-get (BinOk n) ((S.cellAt sh c r) .bins) (freeBin n) (u .bins .1) k (omega (arith, u .bins .0)) .1 .1
+      let u = unit-sized sh mem c (words-passed sh mem _ v) (passed .inCells) in
+      let inside = index-below (sh .bins) bank bin (passed .inBanks) (passed .inBins) in
+      all-get (BinOk (sh .lags)) ((S.cellAt sh c ((runL sh) .get mem)) .bins) (freeBin (sh .lags)) (u .bins .1)
+      (binIndex (sh .bins) bank bin) (omega (arith, u .bins .0)) .1 .1
 
-  pub emitted-back : RowBack sh c bank bin stored (emittedTo sh c bank bin mem out)
-  unfolding S.step S.accepted
+  pub emitted-back : RowBack sh accumulated c bank bin stored (emittedTo sh c bank bin mem out)
+  unfolding S.step S.accepted S.sends
   emitted-back =
-      let p = passed in
-      let frame = S.rowFrame sh c bank bin stored in
-      let fits =
-      row-length sh shape-ok c bank bin stored (p .inCells) (p .inBanks) (p .inBins) long (limits .1) (limits .0) in
-      let e : emittedTo sh c bank bin mem out ≡ frame = rw v (take-splice out frame _ fits (p .room)) in
-      rw e (row-back sh shape-ok c bank bin stored (p .inCells) (p .inBanks) (p .inBins) long (limits .1) (limits .0))
+      rw v
+      (sent-back sh (shape-passed sh mem _ v) accumulated c bank bin stored refl (passed .inCells) (passed .inBanks)
+      (passed .inBins) long (limits .1) (limits .0) out (passed .room))
+
+-- an accepted speed dump
+module _ (sh : Shape) (c bank phase : ℕ) (mem out : List ℕ)
+    (v : S.verdict sh mem (dump c speed bank phase out) ≡ verdict.Accepted) where
+  abbrev opened : Stamped Row
+  opened = storedOpen sh c mem
+
+  dumped : DumpPassed sh mem c speed bank phase (length out)
+  dumped = dump-passed sh mem c speed bank phase out v
+
+  open-limits : (rowOk binLimit (opened .members) ≡ true) × (opened .stamp ≤ runLimit)
+  open-limits =
+      let r = (runL sh) .get mem in
+      let content = open-tested (sh .lags) (sh .bins) (sh .blocks) (r .t) speed (S.unitAt sh c r) (dumped .sound) in
+      let s = and-both (rowOk openLimit (opened .members)) _ content in
+      let past : opened .stamp ≤ r .t = leb-true (opened .stamp) (r .t) (s .1) in
+      (row-wider openLimit binLimit (opened .members) (omega arith) (s .0), omega (arith, dumped .time))
+
+  pub speed-back : RowBack sh speedFrame c bank (speedBin sh c bank phase mem) opened (speedTo sh c bank phase mem out)
+  unfolding S.step S.accepted S.dumpsBy S.sends dumpFits
+  speed-back =
+      let u = unit-sized sh mem c (words-passed sh mem _ v) (dumped .inCells) in
+      rw v
+      (sent-back sh (shape-passed sh mem _ v) speedFrame c bank (speedBin sh c bank phase mem) opened refl
+      (dumped .inCells) (dumped .inBanks) (dumped .bin) (u .opened) (open-limits .1) (open-limits .0) out
+      (leb-true _ _ (dumped .room)))
+
+-- the first word of bytes is that of their front
+first-word : (l behind : List ℕ) → 4 ≤ length l → getD (wordsOf (l ++ behind)) 0 0 ≡ getD (wordsOf l) 0 0
+first-word [] behind h = absurd (omega arith)
+first-word (a ∷ []) behind h = absurd (omega arith)
+first-word (a ∷ b ∷ []) behind h = absurd (omega arith)
+first-word (a ∷ b ∷ c ∷ []) behind h = absurd (omega arith)
+first-word (a ∷ b ∷ c ∷ d ∷ l) behind h = refl
+
+same-kind : (s behind : List ℕ) → 6 ≤ length s
+    → (fieldsOf (bodyOf (s ++ behind))) .kind ≡ (fieldsOf (bodyOf s)) .kind
+unfolding fieldsOf
+same-kind [] behind h = absurd (omega arith)
+same-kind (x ∷ []) behind h = absurd (omega arith)
+same-kind (x ∷ y ∷ s) behind h = ap (λ w. w % 8) (first-word s behind (omega arith))
+
+one-kind : (n : ℕ) (s behind : List ℕ) → readVerdict n s ≡ verdict.Accepted
+    → readVerdict n (s ++ behind) ≡ verdict.Accepted → behind ≡ []
+one-kind n s behind v w =
+    let a = accepted n s v in
+    let b = accepted n (s ++ behind) w in
+    let same : kindBy n (s ++ behind) ≡ kindBy n s =
+    sym (b .kind) ∙ same-kind s behind (omega (arith, a .size, head-least (kindBy n s))) ∙ a .kind in
+    let size : length (s ++ behind) ≡ frameLength (kindBy n s) n = rw (← same) (b .size) in
+    none behind (omega (arith, length-append s behind, size, a .size))
+  where
+    none : (l : List ℕ) → length l ≡ 0 → l ≡ []
+    none [] e = refl
+    none (x ∷ l) e = absurd (omega arith)
 
 pub round-trip : RoundTrip
 round-trip =
@@ -207,5 +235,7 @@ round-trip =
       fields-back = leaves-read;
       lags-back = leaves-lags;
       bytes-back = λ n s out bytes ok room. leaves-again n s (below-all 256 s bytes) ok out room;
+      one-kind = one-kind;
       emitted-back = emitted-back;
+      speed-back = speed-back;
     }

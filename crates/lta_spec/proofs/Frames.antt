@@ -2,7 +2,7 @@
 -- frames.
 use Prim.Native.Nat.{ℕ, zero, suc, _*_, _≤_, _<_}
 use mathlib.Core.Path.{_≡_, refl, sym, ap, ap₂, _∙_, subst}
-use mathlib.Core.Bool.{Bool, true, false, _&&_}
+use mathlib.Core.Bool.{Bool, true, false, not, _&&_, _||_}
 use mathlib.Core.List.{List, [], _∷_, _++_, map, append-assoc}
 use native.Mathlib.Nat.{not-suc-le-zero, le-of-suc-le-suc}
 use native.Mathlib.Omega.{arith}
@@ -13,17 +13,19 @@ use borrow.Author.Tests.{leb-true, eqb-true, eqb-false}
 use Rattle.lta_spec.specs.Refusals.{firstOf, decided}
 use Rattle.lta_spec.specs.Size.{memoryWords}
 use Rattle.lta_spec.specs.Words.{splice}
-use Rattle.lta_spec.specs.Place.{Cell, ready}
+use Rattle.lta_spec.specs.Place.{Label, Stamped, Cell, ready}
 use Rattle.lta_spec.specs.Bytes.{numberWord}
-use Rattle.lta_spec.specs.Frame.{accumulated, frameLength, lagWords, header}
-use Rattle.lta_spec.specs.Call.{Call, lentTo, bankOk, binIndex}
+use Rattle.lta_spec.specs.Frame.{accumulated, speedFrame, frameLength, lagWords}
+use Rattle.lta_spec.specs.Call.{Call, lentTo, speed, commandOk, dumpFits, phaseOk, bankOk, binIndex}
+use Rattle.lta_spec.specs.Call.{emittedFields}
 use Rattle.lta_spec.specs.Call.Call.{tick, dump, integrate, emit, reading, forecast, page}
 use Rattle.lta_spec.specs.Answer.{refusal}
 use Rattle.lta_spec.specs.Answer.Answer.{refused, number}
 use Rattle.lta_spec.specs.Machine as M
 use Rattle.lta_spec.specs.Machine.{Ticks}
-use Rattle.lta_spec.specs.Numbers.{Emitted, lagSums, setFrame}
+use Rattle.lta_spec.specs.Numbers.{Emitted, lagSums, setFields, setFrame}
 use Rattle.lta_spec.specs.MachineRun as R
+use Rattle.lta_spec.specs.Engine as E
 use Rattle.lta_spec.specs.Memory as W
 use Rattle.lta_spec.specs.Demand.{Listed, AllStand, machineReturns, machineRun, frameIf, frameReturned}
 use Rattle.lta_spec.specs.Demand.{framesReturned}
@@ -34,7 +36,8 @@ use Rattle.lta_spec.specs.declared.Verdict.the-variants.{Accepted, Refus
 use Rattle.lta_spec.proofs.WordLaws.{take-splice}
 use Rattle.lta_spec.proofs.TestLaws.{pass}
 use Rattle.lta_spec.proofs.FrameLaws.{length-frame}
-use Rattle.lta_spec.proofs.SameRun.{SameRun, frame-same}
+use Rattle.lta_spec.proofs.RoundTrips.{length-header}
+use Rattle.lta_spec.proofs.SameRun.{SameRun, Carried, bin-carried, open-carried, frame-same}
 use Rattle.lta_spec.proofs.Follow.{run-same, accepts, turned}
 
 -- the frames returned so far are those of the unit's sets, whatever bytes come later
@@ -47,12 +50,17 @@ lags-length n xs ys s zero k = refl
 lags-length n xs ys s (suc m) k = omega (arith, lags-length n xs ys s m (suc k))
 
 frame-length : (sh : Shape) (c : ℕ) (xs ys : List ℕ) (e : Emitted)
-    → length (setFrame sh c xs ys e) ≡ frameLength accumulated (sh .lags)
-unfolding setFrame header
+    → length (setFrame sh c xs ys e) ≡ frameLength (e .kind) (sh .lags)
+unfolding setFrame emittedFields
 frame-length sh c xs ys e =
     let zs = lagSums (sh .lags) xs ys (e .content .members) (sh .lags) 0 in
     length-frame _ (lagWords zs)
-    ∙ omega (arith, length-map zs numberWord, lags-length (sh .lags) xs ys (e .content .members) (sh .lags) 0)
+    ∙ omega (
+      arith,
+      length-header (setFields sh c xs ys e),
+      length-map zs numberWord,
+      lags-length (sh .lags) xs ys (e .content .members) (sh .lags) 0,
+    )
 
 -- a tick's bytes join a unit's
 tick-at : (t : ℕ) (samples : List ℕ) (us : List R.Unit) (c : ℕ) (d : R.Unit) → c < length us
@@ -92,7 +100,7 @@ module _ (sh : Shape) (wide : 2 ≤ sh .lags) (e : W.Run) (m : R.Run) (s : SameR
 
   -- an accepted call
   abbrev returnedBy : Call → R.Step → List (List ℕ)
-  returnedBy call r = frameReturned (sh .lags) c (onRun call) (record { answer = r .answer; out = r .out })
+  returnedBy call r = frameReturned c (onRun call) (record { answer = r .answer; out = r .out })
 
   -- a dump or an integration
   moved-framed : (d : ℕ) (cell : Cell Ticks) (k : M.Counter)
@@ -102,48 +110,39 @@ module _ (sh : Shape) (wide : 2 ≤ sh .lags) (e : W.Run) (m : R.Run) (s : SameR
       set-at sh (m .units) c d _ (R.freshUnit sh) fs fs there
       (λ same gx gy. subst (λ k. Framed sh c fs (R.unitAt sh k m)) (sym (eqb-true d c same)) p gx gy) (λ _. refl) p
 
-  -- an emission of a bin of cell d: the frame that it tells, and the unit that it leaves
-  module _ (d bank bin : ℕ) (out : List ℕ) (h : ltb d (sh .cells) ≡ true)
-      (room : leb (frameLength accumulated (sh .lags)) (length out) ≡ true) where
+  -- a call that sends a frame of cell d: the frame that it tells, and the unit that it leaves
+  module _ (d : ℕ) (places : Cell Ticks) (k : M.Counter) (sent : Emitted) (x : Stamped E.Row) (out : List ℕ)
+      (carried : Carried sh wide (m .t) (e .units) (m .units) (s .limit) (s .cells) (s .units) d x (sent .content))
+      (room : leb (frameLength (sent .kind) (sh .lags)) (length out) ≡ true) where
     abbrev was : R.Unit
     was = R.unitAt sh d m
-
-    abbrev sent : Emitted
-    sent = R.emitted sh d bank bin m
 
     abbrev frame : List ℕ
     frame = setFrame sh d (was .xs) (was .ys) sent
 
-    stands : take (frameLength accumulated (sh .lags)) (splice out 0 frame) ≡ frame
+    stands : take (frameLength (sent .kind) (sh .lags)) (splice out 0 frame) ≡ frame
     stands =
         take-splice out frame _ (frame-length sh d (was .xs) (was .ys) sent)
-        (leb-true (frameLength accumulated (sh .lags)) (length out) room)
+        (leb-true (frameLength (sent .kind) (sh .lags)) (length out) room)
 
     later : (gx gy : List ℕ) → frame ≡ setFrame sh d (gx ++ was .xs) (gy ++ was .ys) sent
     later gx gy =
-        sym (frame-same sh wide (m .t) (e .units) (m .units) (s .limit) (s .cells) (s .units) [] [] d bank bin h)
-        ∙ frame-same sh wide (m .t) (e .units) (m .units) (s .limit) (s .cells) (s .units) gx gy d bank bin h
+        let same = frame-same sh wide (m .t) (e .units) (m .units) (s .limit) (s .cells) (s .units) d sent x carried in
+        sym (same [] []) ∙ same gx gy
 
     abbrev left : R.Unit
-    left =
-        record {
-          cell = M.emptyBin (binIndex (sh .bins) bank bin) (was .cell);
-          counter = was .counter;
-          frames = sent ∷ was .frames;
-          xs = was .xs;
-          ys = was .ys;
-        }
+    left = record { cell = places; counter = k; frames = sent ∷ was .frames; xs = was .xs; ys = was .ys }
 
     abbrev returnedIf : Bool → List (List ℕ)
-    returnedIf b = frameIf b (sh .lags) (number (frameLength accumulated (sh .lags))) (splice out 0 frame)
+    returnedIf b = frameIf b (number (frameLength (sent .kind) (sh .lags))) (splice out 0 frame)
 
     own : d ≡ c → Framed sh c (returnedIf true ++ fs) left
     own same gx gy =
         ap₂ (λ x y. x ∷ y) (stands ∙ later gx gy ∙ ap (λ k. setFrame sh k (gx ++ was .xs) (gy ++ was .ys) sent) same)
         (subst (λ k. Framed sh c fs (R.unitAt sh k m)) (sym same) p gx gy)
 
-    emitted-framed : Framed sh c (returnedIf (eqb d c) ++ fs) (getD (set (m .units) d left) c (R.freshUnit sh))
-    emitted-framed = by-test (eqb d c) refl
+    sent-framed : Framed sh c (returnedIf (eqb d c) ++ fs) (getD (set (m .units) d left) c (R.freshUnit sh))
+    sent-framed = by-test (eqb d c) refl
       where
         by-test : (b : Bool) → eqb d c ≡ b
             → Framed sh c (returnedIf b ++ fs) (getD (set (m .units) d left) c (R.freshUnit sh))
@@ -154,12 +153,28 @@ module _ (sh : Shape) (wide : 2 ≤ sh .lags) (e : W.Run) (m : R.Run) (s : SameR
             set-at sh (m .units) c d left (R.freshUnit sh) fs fs there
             (λ r. let z : _≡_ {A = ℕ} 0 1 = cc in absurd (omega arith)) (λ _. refl) p
 
+  -- a dump: 011, or another
+  dump-framed : (d : ℕ) (l : Label) (k : M.Counter) (out : List ℕ) → ltb d (sh .cells) ≡ true
+      → (b : Bool) → not b || leb (frameLength speedFrame (sh .lags)) (length out) ≡ true
+      → let r = R.dumpsBy b sh d l k out m in
+      Framed sh c (frameIf (b && eqb d c) (r .answer) (r .out) ++ fs) (R.unitAt sh c (r .run))
+  unfolding R.dumpsBy R.sends R.withFrame R.speedSent
+  dump-framed d l k out h true room =
+      sent-framed d _ k _ _ out
+      (open-carried sh wide (m .t) (e .units) (m .units) (s .limit) (s .cells) (s .units) d h) room
+  dump-framed d l k out h false room = moved-framed d _ _
+
   -- every call
   accepted-framed : (call : Call) → firstOf (R.callTests sh m call) ≡ Accepted
       → Framed sh c (returnedBy call (R.accepted sh call m) ++ fs) (R.unitAt sh c ((R.accepted sh call m) .run))
-  unfolding R.accepted R.withFrame R.withCell
+  unfolding R.accepted R.sends R.withFrame R.withCell R.emitted dumpFits
   accepted-framed (tick samples) v = tick-at (m .t) samples (m .units) c (R.freshUnit sh) there sh fs p
-  accepted-framed (dump d command bank phase) v = moved-framed d _ _
+  accepted-framed (dump d command bank phase out) v =
+      let x = pass (ltb d (sh .cells)) _ _ v in
+      let y = pass (commandOk command) _ _ (x .1) in
+      let z = pass (bankOk bank && phaseOk sh phase) _ _ (y .1) in
+      let w = pass (dumpFits (sh .lags) command (length out)) _ _ (z .1) in
+      dump-framed d _ _ out (x .0) (eqb command speed) (w .0)
   accepted-framed (integrate d) v = moved-framed d _ _
   accepted-framed (emit d bank bin out) v =
       let k = binIndex (sh .bins) bank bin in
@@ -167,21 +182,22 @@ module _ (sh : Shape) (wide : 2 ≤ sh .lags) (e : W.Run) (m : R.Run) (s : SameR
       let y = pass (bankOk bank && ltb bin (sh .bins)) _ _ (x .1) in
       let z = pass (eqb ((M.binAt k ((R.unitAt sh d m) .cell)) .state) ready) _ _ (y .1) in
       let w = pass (leb (frameLength accumulated (sh .lags)) (length out)) _ _ (z .1) in
-      emitted-framed d bank bin out (x .0) (w .0)
+      sent-framed d _ _ _ _ out
+      (bin-carried sh wide (m .t) (e .units) (m .units) (s .limit) (s .cells) (s .units) d k (x .0)) (w .0)
   accepted-framed (reading d lag loss) v = p
   accepted-framed (forecast d) v = p
   accepted-framed (page out) v = p
 
+  none-returned : (b : Bool) (k : ℕ) (out : List ℕ) → frameIf b (refused k) out ≡ []
+  none-returned true k out = refl
+  none-returned false k out = refl
+
   refused-returned : (call : Call) (k : ℕ)
       → returnedBy call (record { answer = refused k; out = lentTo call; run = m }) ≡ []
   refused-returned (tick samples) k = refl
-  refused-returned (dump d command bank phase) k = refl
+  refused-returned (dump d command bank phase out) k = none-returned (eqb command speed && eqb d c) k out
   refused-returned (integrate d) k = refl
-  refused-returned (emit d bank bin out) k = by-test (eqb d c)
-    where
-      by-test : (b : Bool) → frameIf b (sh .lags) (refused k) out ≡ []
-      by-test true = refl
-      by-test false = refl
+  refused-returned (emit d bank bin out) k = none-returned (eqb d c) k out
   refused-returned (reading d lag loss) k = refl
   refused-returned (forecast d) k = refl
   refused-returned (page out) k = refl
@@ -205,19 +221,19 @@ module _ (sh : Shape) (wide : 2 ≤ sh .lags) (e : W.Run) (m : R.Run) (s : SameR
 pub list-framed : (sh : Shape) → 2 ≤ sh .lags → (cs : List Listed) → AllStand cs → (e : W.Run) (m : R.Run)
     → SameRun sh e m
     → (c : ℕ) → c < sh .cells → (fs : List (List ℕ)) → Framed sh c fs (R.unitAt sh c m)
-    → Framed sh c (framesReturned (sh .lags) c cs (machineReturns sh cs m) ++ fs) (R.unitAt sh c (machineRun sh cs m))
+    → Framed sh c (framesReturned c cs (machineReturns sh cs m) ++ fs) (R.unitAt sh c (machineRun sh cs m))
 unfolding machineReturns machineRun
 list-framed sh w [] a e m s c h fs p = p
 list-framed sh w (onRun call ∷ cs) a e m s c h fs p =
     let x = run-same sh w e m s call in
     let r = R.step sh (memoryWords sh) call m in
-    let first = frameReturned (sh .lags) c (onRun call) (record { answer = r .answer; out = r .out }) in
-    let rest = framesReturned (sh .lags) c cs (machineReturns sh cs (r .run)) in
+    let first = frameReturned c (onRun call) (record { answer = r .answer; out = r .out }) in
+    let rest = framesReturned c cs (machineReturns sh cs (r .run)) in
     let q = list-framed sh w cs (a .1) (x .run) (r .run) (x .same) c h _ (run-framed sh w e m s c h fs p call) in
     λ gx gy. append-assoc rest first fs ∙ q gx gy
 list-framed sh w (onOther shape call given ∷ cs) a e m s c h fs p =
     let x = turned shape call given m (a .0) in
-    let returned = framesReturned (sh .lags) c cs in
+    let returned = framesReturned c cs in
     subst (λ r. Framed sh c ((returned (machineReturns sh cs r) ++ []) ++ fs) (R.unitAt sh c (machineRun sh cs r)))
     (sym (ap (λ z. z .run) (x .machine)))
     (λ gx gy. append-assoc (returned (machineReturns sh cs m)) [] fs ∙ list-framed sh w cs (a .1) e m s c h fs p gx gy)

@@ -14,7 +14,7 @@ use Rattle.lta_spec.specs.Refusals.{firstOf, decided}
 use Rattle.lta_spec.specs.Shape.{shapeOk, runLimit}
 use Rattle.lta_spec.specs.Size.{memoryWords, hostTests}
 use Rattle.lta_spec.specs.Place.{Label, Bin, Cell, ordered, overrun, full, replaced, tooWide, holdoff, lossCount}
-use Rattle.lta_spec.specs.Call.{Call, lentTo, idle}
+use Rattle.lta_spec.specs.Call.{Call, lentTo, speed, idle}
 use Rattle.lta_spec.specs.Call.Call.{tick, dump, integrate, emit, reading, forecast, page}
 use Rattle.lta_spec.specs.Answer.{refusal}
 use Rattle.lta_spec.specs.Machine as M
@@ -69,6 +69,9 @@ module _ (k : ℕ) (b : Bin Ticks) (c : Cell Ticks) where
   integrate-open false false false = refl
 
 -- an accepted dump, where none but 111 was told
+told-none : (k : ℕ) → _≡_ {A = List ℕ} (k ∷ []) [] → _≡_ {A = ℕ} 0 1
+told-none k e = cc
+
 dump-open : (k command : ℕ) (y z : Bool) (l : Label) (t : ℕ) (c : Cell Ticks)
     → cond (true && not (eqb command idle)) (k ∷ []) [] ≡ []
     → (M.dumpBy (eqb command idle) y z l t c) .cell .opened .members ≡ c .opened .members
@@ -78,7 +81,7 @@ dump-open k command y z l t c e = by-test (eqb command idle) e
     by-test : (b : Bool) → cond (true && not b) (k ∷ []) [] ≡ []
         → (M.dumpBy b y z l t c) .cell .opened .members ≡ c .opened .members
     by-test true e = refl
-    by-test false e = let z : _≡_ {A = ℕ} 0 1 = cc in absurd (omega arith)
+    by-test false e = let z = told-none k e in absurd (omega arith)
 
 -- a tick: Open gets it where there is room, else loss 6
 module _ (t : ℕ) (c : Cell Ticks) where
@@ -227,25 +230,40 @@ module _ (sh : Shape) (c : ℕ) where
         → Kept (onRun call) m (record { answer = refusal why; out = lentTo call; run = m })
     refused-keeps (tick samples) why v =
         record { none = refl; time = refl; opened = refl; losses = refl; ended = run-full samples why v }
-    refused-keeps (dump d command bank phase) why v = no-tick _ m _ refl refl refl refl refl
+    refused-keeps (dump d command bank phase out) why v = no-tick _ m _ refl refl refl refl refl
     refused-keeps (integrate d) why v = no-tick _ m _ refl refl refl refl refl
     refused-keeps (emit d bank bin out) why v = no-tick _ m _ refl refl refl refl refl
     refused-keeps (reading d lag loss) why v = no-tick _ m _ refl refl refl refl refl
     refused-keeps (forecast d) why v = no-tick _ m _ refl refl refl refl refl
     refused-keeps (page out) why v = no-tick _ m _ refl refl refl refl refl
 
-    accepted-does : (call : Call) → firstOf (R.callTests sh m call) ≡ Accepted
-        → dumpTold c (onRun call) (told (R.accepted sh call m)) ≡ [] → Outcome (onRun call) m (R.accepted sh call m)
-    unfolding R.accepted R.withDump R.withCell R.withFrame M.dumpCell M.integrateCell M.integrateAt M.emptyBin
-    accepted-does (tick samples) v none =
-        let a = pass (eqb (length samples) (2 * sh .cells)) _ _ v in
-        ticks (record { samples = samples; one = refl; run = refl; single = rw (a .0) (omega arith) })
-    accepted-does (dump d command bank phase) v none =
+    -- an accepted dump of another cell, or 111
+    dump-does : (d command bank phase : ℕ) (out : List ℕ) (k : M.Counter) (b : Bool) → eqb command speed ≡ b
+        → let call = dump d command bank phase out in
+        let s = R.dumpsBy b sh d (M.dumpLabel (sh .start) (sh .blocks) command bank phase (k .block)) k out m in
+        dumpTold c (onRun call) (told s) ≡ [] → Outcome (onRun call) m s
+    unfolding R.dumpsBy R.sends R.withDump R.withFrame M.dumpCell M.sendOpen
+    dump-does d command bank phase out k true e none =
+        let other : eqb command idle ≡ false = ap (λ x. eqb x idle) (eqb-true command speed e) in
+        keeps
+        (no-tick _ m _ refl refl refl
+        (kept-at openSet (m .units) d c _ (R.freshUnit sh)
+        (λ same. let z : _≡_ {A = ℕ} 0 1 = told-none _ (rw (eq-eqb d c same, other) at none) in absurd (omega arith)))
+        (map-set-same holdoffSet (m .units) d _ (R.freshUnit sh) refl))
+    dump-does d command bank phase out k false e none =
         keeps
         (no-tick _ m _ refl refl refl
         (kept-at openSet (m .units) d c _ (R.freshUnit sh)
         (λ same. dump-open _ command _ _ _ _ _ (rw (eq-eqb d c same) at none)))
         (map-set-same holdoffSet (m .units) d _ (R.freshUnit sh) (dump-six _ _ _ _ _ _)))
+
+    accepted-does : (call : Call) → firstOf (R.callTests sh m call) ≡ Accepted
+        → dumpTold c (onRun call) (told (R.accepted sh call m)) ≡ [] → Outcome (onRun call) m (R.accepted sh call m)
+    unfolding R.accepted R.sends R.withDump R.withCell R.withFrame M.integrateCell M.integrateAt M.emptyBin
+    accepted-does (tick samples) v none =
+        let a = pass (eqb (length samples) (2 * sh .cells)) _ _ v in
+        ticks (record { samples = samples; one = refl; run = refl; single = rw (a .0) (omega arith) })
+    accepted-does (dump d command bank phase out) v none = dump-does d command bank phase out _ _ refl none
     accepted-does (integrate d) v none =
         keeps
         (no-tick _ m _ refl refl refl

@@ -1,5 +1,5 @@
--- What follows from the definitions of specs/: laws for the proofs of the other crates, and the seven statements of
--- specs/: Encoding, RoundTrip (in EmittedBack), Demand, Forecasts, LossPages, Edges and AnswerOrder.
+-- What follows from the definitions of specs/: laws for the proofs of the other crates, and the eight statements of
+-- specs/: Encoding, RoundTrip (in EmittedBack), Demand, Forecasts, LossPages, Edges, SpeedRows and AnswerOrder.
 pub mod WordLaws
 pub mod DecimalLaws
 pub mod TestLaws
@@ -16,11 +16,13 @@ pub mod PageLaws
 pub mod LedgerLaws
 pub mod LayoutLaws
 pub mod MemoryLaws
-pub mod EmittedBack
 pub mod BlockLaws
+pub mod Passed
+pub mod EmittedBack
 pub mod Carry
 pub mod Conserve
 pub mod Sound
+pub mod LabelLaws
 pub mod Intact
 pub mod SameCell
 pub mod SameRun
@@ -35,4 +37,5 @@ pub mod Forecasts
 pub mod LossPages
 pub mod BlockRows
 pub mod Edges
+pub mod SpeedRows
 pub mod AnswerOrder

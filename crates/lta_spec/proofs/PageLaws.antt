@@ -146,7 +146,8 @@ module _ (cell loss : List ℕ) (two : length cell ≡ 2) (one : length loss ≡
         ap readNumber (past 1 11 ∙ aligned (k .ticks) _ (w .ticks)) ∙ read-right 11 (k .ticks)
     number-columns edge =
         ap readNumber
-        (past 13 11 ∙ part-behind ticksText _ 12 1 11 ticks-size ∙ aligned (k .edge) _ (omega (arith, w .ticks, w .edge)))
+        (past 13 11 ∙ part-behind ticksText _ 12 1 11 ticks-size
+        ∙ aligned (k .edge) _ (omega (arith, w .ticks, w .edge)))
         ∙ read-right 11 (k .edge)
     number-columns centre =
         ap readNumber

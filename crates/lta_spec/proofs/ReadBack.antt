@@ -66,8 +66,8 @@ module _ (sh : Shape) (ok : shapeOk sh ≡ true) (c : ℕ) (hc : c < sh .cells) 
       let set = e .content .members in
       let b : Stamped Row = mapStamped (row n xs ys) (e .content) in
       let r =
-      row-back sh ok c (e .bank) (e .bin) b hc (s .bank) (s .bin) (length-numbers n xs ys set) (omega (arith, s .stamp))
-      (row-ok n xs ys set binLimit (s .few)) in
+      row-back sh ok (e .kind) c (e .bank) (e .bin) b (s .kind) hc (s .bank) (s .bin) (length-numbers n xs ys set)
+      (omega (arith, s .stamp)) (row-ok n xs ys set binLimit (s .few)) in
       let frame = set-frame sh c xs ys e in
       record {
         few = s .few;

@@ -1,25 +1,28 @@
--- What tests that passed give, and the round trips for every N: a frame written and read back gives its fields and
--- its lags, and an accepted frame rewritten from what was read gives its bytes.
-use mathlib.Core.Path.{_≡_, refl, sym, ap, _∙_}
-use mathlib.Core.Bool.{true, _&&_}
+-- What tests that passed give, and the round trips for both kinds and every N: a frame written and read back gives its
+-- fields and its lags, and an accepted frame rewritten from what was read gives its bytes.
+use mathlib.Core.Path.{_≡_, refl, sym, ap, _∙_, subst}
+use mathlib.Core.Bool.{Bool, true, false, cond, _&&_, _||_}
 use mathlib.Core.List.{List, [], _∷_, _++_, map}
 use Prim.Native.Nat.{ℕ, suc, _+_, _*_, _/_, _%_, _<_, _≤_}
 use native.Mathlib.Omega.{arith}
 use lib.Dec.{leb, ltb, eqb}
 use lib.IntN.{ℤ, pos, negsuc}
-use lib.ListN.{length, take, drop, length-drop, length-map}
+use lib.ListN.{length, getD, take, drop, length-drop, length-map}
 use lib.Seq.{drop-drop}
 use mir.Syntax.{w32}
 use mir.Val.{SFits}
-use borrow.Author.Tests.{leb-true, ltb-true, eqb-true, eq-eqb, le-leb}
+use borrow.Author.Tests.{leb-true, ltb-true, eqb-true, eq-eqb, ne-eqb, le-leb}
 use Rattle.lta_spec.specs.Words.{part, splice}
 use Rattle.lta_spec.specs.Refusals.{test, firstOf, decided}
 use Rattle.lta_spec.specs.Shape.{lagCountOk, binLimit, peak}
 use Rattle.lta_spec.specs.Bytes.{wordRange, numberWord, signed}
 use Rattle.lta_spec.specs.Frame.{
   accumulated,
+  speedFrame,
   headWords,
   frameLength,
+  lagsAt,
+  lengthKind,
   checksum,
   frameOf,
   bodyOf,
@@ -30,14 +33,18 @@ use Rattle.lta_spec.specs.Frame.{
   header,
   fieldsOf,
   fixedOk,
+  kindOk,
   fieldsOk,
+  biasOk,
   within,
   lagsOk,
 }
-use Rattle.lta_spec.specs.FrameCalls.{marked, summed, ruled, readTests, readVerdict, readAnswer}
-use Rattle.lta_spec.specs.FrameCalls.{writeVerdict, writeLeaves, normalVerdict}
+use Rattle.lta_spec.specs.FrameCalls.{marked, summed, ruled, kindBy, readTests, readVerdict, readAnswer}
+use Rattle.lta_spec.specs.FrameCalls.{lagSpan, writeVerdict, writeLeaves, normalVerdict}
 use Rattle.lta_spec.specs.declared.Fields.{Fields}
 use Rattle.lta_spec.specs.declared.Refusal.the-variants.{NoLag}
+use Rattle.lta_spec.specs.declared.Span.{Span}
+use Rattle.lta_spec.specs.declared.Verdict.{Verdict}
 use Rattle.lta_spec.specs.declared.Verdict.the-variants as verdict
 use Rattle.lta_spec.specs.Answer.Answer.{fields}
 use Rattle.lta_spec.specs.RoundTrip.{lagsRead}
@@ -69,9 +76,39 @@ pub count-small : (n : ℕ) → lagCountOk n ≡ true → n ≤ 128
 unfolding lagCountOk
 count-small n e = and-le n 128 _ (and-le 2 n _ e .1) .0
 
+-- what holds of each kind holds of every known one
+pub by-kind : (P : ℕ → Type 0) → P accumulated → P speedFrame → (kind : ℕ) → kindOk kind ≡ true → P kind
+by-kind P a b kind ok = by-test (eqb kind accumulated) (eqb kind speedFrame) refl refl ok
+  where
+    by-test : (x y : Bool) → eqb kind accumulated ≡ x → eqb kind speedFrame ≡ y → x || y ≡ true → P kind
+    by-test true y p q h = subst P (sym (eqb-true kind accumulated p)) a
+    by-test false true p q h = subst P (sym (eqb-true kind speedFrame q)) b
+    by-test false false p q h = let z : _≡_ {A = ℕ} 0 1 = cc in absurd (omega arith)
+
+pub kind-small : (kind : ℕ) → kindOk kind ≡ true → kind ≤ 3
+kind-small = by-kind (λ k. k ≤ 3) (omega arith) (omega arith)
+
+heads-between : (kind : ℕ) → (7 ≤ headWords kind) × (headWords kind ≤ 8)
+heads-between kind = by-test (eqb kind speedFrame)
+  where
+    by-test : (b : Bool) → (7 ≤ cond b 8 7) × (cond b 8 7 ≤ 8)
+    by-test true = (omega arith, omega arith)
+    by-test false = (omega arith, omega arith)
+
+pub head-least : (kind : ℕ) → 7 ≤ headWords kind
+head-least kind = heads-between kind .0
+
+-- the length of a frame tells its kind
+pub length-kind : (n kind : ℕ) → kindOk kind ≡ true → lengthKind n (frameLength kind n) ≡ kind
+unfolding lengthKind
+length-kind n =
+    by-kind (λ k. cond (eqb (frameLength k n) (frameLength speedFrame n)) speedFrame accumulated ≡ k)
+    (rw (ne-eqb (frameLength accumulated n) (frameLength speedFrame n) (λ e. omega arith)))
+    (rw (eq-eqb (frameLength speedFrame n) (frameLength speedFrame n) refl))
+
 -- what fields that pass their tests are
 pub record Valid (f : Fields) : Type 0 where
-  pub kind : f .kind ≡ accumulated
+  pub kind : kindOk (f .kind) ≡ true
   pub cell : f .cell ≤ 15
   pub block : f .block ≤ 255
   pub bin : f .bin ≤ 999
@@ -85,7 +122,7 @@ pub record Valid (f : Fields) : Type 0 where
 pub valid : (f : Fields) → fieldsOk f ≡ true → Valid f
 unfolding fieldsOk
 valid f e =
-    let k = and-both (eqb (f .kind) accumulated) _ e in
+    let k = and-both (kindOk (f .kind)) _ e in
     let l = and-le (f .cell) 15 _ (k .1) in
     let m = and-le (f .block) 255 _ (l .1) in
     let b = and-le (f .bin) 999 _ (m .1) in
@@ -96,7 +133,7 @@ valid f e =
     let s = and-le (f .second) 4294967295 _ (d .1) in
     let o = and-le (f .offset) 255999999 _ (s .1) in
     record {
-      kind = eqb-true _ _ (k .0);
+      kind = k .0;
       cell = l .0;
       block = m .0;
       bin = b .0;
@@ -112,7 +149,7 @@ pub fields-ok : (f : Fields) → Valid f → fieldsOk f ≡ true
 unfolding fieldsOk
 fields-ok f v =
     rw (
-      eq-eqb _ _ (v .kind),
+      v .kind,
       le-leb _ _ (v .cell),
       le-leb _ _ (v .block),
       le-leb _ _ (v .bin),
@@ -127,31 +164,37 @@ fields-ok f v =
 -- what bytes that the reader accepts are
 pub record Accepted (n : ℕ) (s : List ℕ) : Type 0 where
   pub count : lagCountOk n ≡ true
-  pub size : length s ≡ frameLength accumulated n
+  pub size : length s ≡ frameLength (kindBy n s) n
   pub mark : marked s ≡ true
-  pub sum : summed (headWords accumulated + 2 * n) (bodyOf s) ≡ true
+  pub sum : summed (headWords (kindBy n s) + 2 * n) (bodyOf s) ≡ true
   pub fixed : fixedOk (bodyOf s) ≡ true
+  pub kind : (fieldsOf (bodyOf s)) .kind ≡ kindBy n s
   pub fields : fieldsOk (fieldsOf (bodyOf s)) ≡ true
-  pub lags : lagsOk (fieldsOf (bodyOf s)) (lagNumbers accumulated n (bodyOf s)) ≡ true
+  pub lags : lagsOk (fieldsOf (bodyOf s)) (lagNumbers (kindBy n s) n (bodyOf s)) ≡ true
+  pub bias : biasOk (kindBy n s) (bodyOf s) ≡ true
 
 pub accepted : (n : ℕ) (s : List ℕ) → readVerdict n s ≡ verdict.Accepted → Accepted n s
 unfolding readVerdict ruled
 accepted n s e =
     let c = pass (lagCountOk n) _ _ e in
-    let l = pass (eqb (length s) (frameLength accumulated n)) _ _ (c .1) in
+    let l = pass (eqb (length s) (frameLength (kindBy n s) n)) _ _ (c .1) in
     let m = pass (marked s) _ _ (l .1) in
-    let w = pass (summed (headWords accumulated + 2 * n) (bodyOf s)) _ _ (m .1) in
-    let r = pass (ruled n (bodyOf s)) _ _ (w .1) in
+    let w = pass (summed (headWords (kindBy n s) + 2 * n) (bodyOf s)) _ _ (m .1) in
+    let r = pass (ruled (kindBy n s) n (bodyOf s)) _ _ (w .1) in
+    let d = pass (biasOk (kindBy n s) (bodyOf s)) _ _ (r .1) in
     let a = and-both (fixedOk (bodyOf s)) _ (r .0) in
-    let b = and-both (fieldsOk (fieldsOf (bodyOf s))) _ (a .1) in
+    let k = and-both (eqb ((fieldsOf (bodyOf s)) .kind) (kindBy n s)) _ (a .1) in
+    let b = and-both (fieldsOk (fieldsOf (bodyOf s))) _ (k .1) in
     record {
       count = c .0;
       size = eqb-true _ _ (l .0);
       mark = m .0;
       sum = w .0;
       fixed = a .0;
+      kind = eqb-true _ _ (k .0);
       fields = b .0;
       lags = b .1;
+      bias = d .0;
     }
 
 -- what arguments that the writer accepts are
@@ -202,13 +245,34 @@ normalises n s k e =
 
 -- the words of the lag part are the lags
 pub lag-part-read : (n : ℕ) (s : List ℕ) → readVerdict n s ≡ verdict.Accepted
-    → lagsRead n s ≡ lagNumbers accumulated n (bodyOf s)
+    → lagsRead n s ≡ lagNumbers (kindBy n s) n (bodyOf s)
 unfolding part
 lag-part-read n s ok =
-    let size : 4 * (headWords accumulated + 2 * n) ≤ length (drop 2 s) =
-    simp length-drop (omega (arith, accepted n s ok .size)) in
+    let h = headWords (kindBy n s) in
+    let size : 4 * (h + 2 * n) ≤ length (drop 2 s) = simp length-drop (omega (arith, accepted n s ok .size)) in
     let e : 8 * n ≡ 4 * (2 * n) = omega arith in
-    rw (ok, ← drop-drop 28 2 s, e) (ap (map signed) (words-part (headWords accumulated) (2 * n) (drop 2 s) size))
+    rw (ok, ← drop-drop (4 * h) 2 s, e) (ap (map signed) (words-part h (2 * n) (drop 2 s) size))
+
+-- the lag part is inside the bytes, starts early and is short
+pub record Inside (p : Span) (s : List ℕ) : Type 0 where
+  pub inside : p .at + p .length ≤ length s
+  pub early : p .at ≤ 34
+  pub short : p .length ≤ 1024
+
+pub lag-inside : (n : ℕ) (s : List ℕ) → Inside (lagSpan n s) s
+lag-inside n s = by-verdict (readVerdict n s) refl
+  where
+    by-verdict : (v : Verdict) → readVerdict n s ≡ v
+        → Inside
+        (decided v (λ r. record { at = 0; length = 0 }) (record { at = lagsAt (kindBy n s); length = 8 * n })) s
+    by-verdict verdict.Accepted e =
+        let a = accepted n s e in
+        record {
+          inside = omega (arith, a .size);
+          early = omega (arith, heads-between (kindBy n s) .1);
+          short = omega (arith, count-small n (a .count));
+        }
+    by-verdict (verdict.Refused r) e = record { inside = omega arith; early = omega arith; short = omega arith }
 
 -- numbers within the limit of a lag are those of an i32
 fits-within : (f : Fields) (z : ℤ) → Valid f → within (peak * f .ticks) z ≡ true → SFits w32 z
@@ -224,16 +288,26 @@ lags-fit f (z ∷ zs) v e =
 -- the words of a header
 pub length-header : (f : Fields) → length (header f) ≡ headWords (f .kind)
 unfolding header
-length-header f = refl
+length-header f = omega (arith, by-test (eqb (f .kind) speedFrame))
+  where
+    by-test : (b : Bool) → 7 + length (cond b (peak * f .ticks ∷ []) []) ≡ cond b 8 7
+    by-test true = refl
+    by-test false = refl
 
 pub header-below : (f : Fields) → Valid f → Below wordRange (header f)
 unfolding header
 header-below f v =
-    (omega arith, (omega arith, (omega arith, (omega arith, (omega arith, (omega arith, (omega arith, tt)))))))
+    let k = kind-small (f .kind) (v .kind) in
+    let bias = by-test (eqb (f .kind) speedFrame) in
+    (omega arith, (omega arith, (omega arith, (omega arith, (omega arith, (omega arith, (omega arith, bias)))))))
+  where
+    by-test : (b : Bool) → Below wordRange (cond b (peak * f .ticks ∷ []) [])
+    by-test true = (omega (arith, v .ticks), tt)
+    by-test false = tt
 
 -- the fields of a header's words are the fields
-w0-parts : (c : ℕ) → c ≤ 15 → let w = accumulated + 2048 * c in (w % 8 ≡ accumulated) × (w / 2048 % 16 ≡ c)
-w0-parts c h = (omega arith, omega arith)
+w0-parts : (k c : ℕ) → k ≤ 3 → c ≤ 15 → let w = k + 2048 * c in (w % 8 ≡ k) × (w / 2048 % 16 ≡ c)
+w0-parts k c hk hc = (omega arith, omega arith)
 
 w1-parts : (k b n : ℕ) → k ≤ 255 → b ≤ 999 → n ≤ 1
     → let w = 256 * k + 65536 * b + 2147483648 * n in
@@ -243,7 +317,7 @@ w1-parts k b n hk hb hn = (omega arith, omega arith, omega arith)
 pub fields-header : (f : Fields) (rest : List ℕ) → Valid f → fieldsOf (header f ++ rest) ≡ f
 unfolding header fieldsOf
 fields-header f rest v =
-    let p : (w0 f % 8 ≡ f .kind) × (w0 f / 2048 % 16 ≡ f .cell) = rw (v .kind) (w0-parts (f .cell) (v .cell)) in
+    let p = w0-parts (f .kind) (f .cell) (kind-small (f .kind) (v .kind)) (v .cell) in
     let q = w1-parts (f .block) (f .bin) (f .bank) (v .block) (v .bin) (v .bank) in
     rw (p .0, p .1, q .0, q .1, q .2)
 
@@ -252,22 +326,41 @@ unfolding fixedOk header
 fixed-header f rest v =
     rw (fields-header f rest v) (rw (eq-eqb (w0 f) (w0 f) refl, eq-eqb (w1 f) (w1 f) refl))
 
+bias-header : (f : Fields) (rest : List ℕ) → biasOk (f .kind) (header f ++ rest) ≡ true
+unfolding biasOk header
+bias-header f rest = by-test (eqb (f .kind) speedFrame)
+  where
+    by-test : (b : Bool)
+        → cond b (eqb (getD (cond b (peak * f .ticks ∷ []) [] ++ rest) 0 0) (peak * f .ticks)) true ≡ true
+    by-test true = eq-eqb (peak * f .ticks) (peak * f .ticks) refl
+    by-test false = refl
+
 -- and the header words of fields are the words that they were read from
-header-fields : (ws : List ℕ) → 7 ≤ length ws → fixedOk ws ≡ true → header (fieldsOf ws) ≡ take 7 ws
-unfolding header fixedOk fieldsOf
-header-fields [] h e = absurd (omega arith)
-header-fields (a ∷ []) h e = absurd (omega arith)
-header-fields (a ∷ b ∷ []) h e = absurd (omega arith)
-header-fields (a ∷ b ∷ t ∷ []) h e = absurd (omega arith)
-header-fields (a ∷ b ∷ t ∷ c ∷ []) h e = absurd (omega arith)
-header-fields (a ∷ b ∷ t ∷ c ∷ d ∷ []) h e = absurd (omega arith)
-header-fields (a ∷ b ∷ t ∷ c ∷ d ∷ s ∷ []) h e = absurd (omega arith)
-header-fields (a ∷ b ∷ t ∷ c ∷ d ∷ s ∷ o ∷ l) h e =
+header-fields : (ws : List ℕ) → let k = (fieldsOf ws) .kind in
+    7 ≤ length ws → headWords k ≤ length ws → fixedOk ws ≡ true → biasOk k ws ≡ true
+    → header (fieldsOf ws) ≡ take (headWords k) ws
+unfolding header fixedOk fieldsOf biasOk
+header-fields [] h m e z = absurd (omega arith)
+header-fields (a ∷ []) h m e z = absurd (omega arith)
+header-fields (a ∷ b ∷ []) h m e z = absurd (omega arith)
+header-fields (a ∷ b ∷ t ∷ []) h m e z = absurd (omega arith)
+header-fields (a ∷ b ∷ t ∷ c ∷ []) h m e z = absurd (omega arith)
+header-fields (a ∷ b ∷ t ∷ c ∷ d ∷ []) h m e z = absurd (omega arith)
+header-fields (a ∷ b ∷ t ∷ c ∷ d ∷ s ∷ []) h m e z = absurd (omega arith)
+header-fields (a ∷ b ∷ t ∷ c ∷ d ∷ s ∷ o ∷ l) h m e z =
     let f = fieldsOf (a ∷ b ∷ t ∷ c ∷ d ∷ s ∷ o ∷ l) in
     let q = and-both (eqb a (w0 f)) (eqb b (w1 f)) e in
     let first : a ≡ w0 f = eqb-true a (w0 f) (q .0) in
     let next : b ≡ w1 f = eqb-true b (w1 f) (q .1) in
-    rw (← first, ← next)
+    rw (← first, ← next) (by-test (eqb (a % 8) speedFrame) l (omega (arith, m)) z)
+  where
+    by-test : (x : Bool) (l : List ℕ) → cond x 8 7 ≤ 7 + length l → cond x (eqb (getD l 0 0) (peak * t)) true ≡ true
+        → a ∷ b ∷ t ∷ c ∷ d ∷ s ∷ o ∷ cond x (peak * t ∷ []) []
+        ≡ take (cond x 8 7) (a ∷ b ∷ t ∷ c ∷ d ∷ s ∷ o ∷ l)
+    by-test false l m z = refl
+    by-test true [] m z = absurd (omega arith)
+    by-test true (w ∷ l) m z =
+        ap (λ v. a ∷ b ∷ t ∷ c ∷ d ∷ s ∷ o ∷ v ∷ []) (sym (eqb-true w (peak * t) z))
 
 -- what is written is read as what was written
 module _ (n : ℕ) (f : Fields) (zs : List ℤ) (room : ℕ) (ok : writeVerdict n f zs room ≡ verdict.Accepted) where
@@ -289,11 +382,14 @@ module _ (n : ℕ) (f : Fields) (zs : List ℤ) (room : ℕ) (ok : writeVerdict 
   length-written =
       omega (arith, length-frame (header f) (lagWords zs), length-header f, length-map zs numberWord, fine .length)
 
+  kind-written : kindBy n (frameOf (header f) (lagWords zs)) ≡ f .kind
+  kind-written = ap (lengthKind n) length-written ∙ length-kind n (f .kind) (sound .kind)
+
   -- its lags
-  pub lags-written : lagNumbers accumulated n (bodyOf (frameOf (header f) (lagWords zs))) ≡ zs
+  pub lags-written : lagNumbers (f .kind) n (bodyOf (frameOf (header f) (lagWords zs))) ≡ zs
   lags-written =
       ap (map signed)
-      (lags-frame (header f) (lagWords zs) (header-below f sound) (lags-below zs) (headWords accumulated) (2 * n)
+      (lags-frame (header f) (lagWords zs) (header-below f sound) (lags-below zs) (headWords (f .kind)) (2 * n)
       (length-header f) (length-map zs numberWord ∙ fine .length))
       ∙ signed-lags zs (lags-fit f zs sound (fine .lags))
 
@@ -301,16 +397,19 @@ module _ (n : ℕ) (f : Fields) (zs : List ℤ) (room : ℕ) (ok : writeVerdict 
   unfolding readVerdict ruled
   accepts-written =
       rw (
+        kind-written,
         fine .count,
-        eq-eqb _ (frameLength accumulated n) length-written,
+        eq-eqb _ (frameLength (f .kind) n) length-written,
         marked-frame (header f) (lagWords zs),
-        summed-frame (header f) (lagWords zs) (header-below f sound) (lags-below zs) (headWords accumulated + 2 * n)
+        summed-frame (header f) (lagWords zs) (header-below f sound) (lags-below zs) (headWords (f .kind) + 2 * n)
             (omega (arith, length-header f, length-map zs numberWord, fine .length)),
         lags-written,
         fields-written,
         ap fixedOk body-written ∙ fixed-header f _ sound,
+        eq-eqb (f .kind) (f .kind) refl,
         fine .fields,
         fine .lags,
+        ap (biasOk (f .kind)) body-written ∙ bias-header f _,
       )
 
   -- its fields, and the lags of its lag part
@@ -318,7 +417,7 @@ module _ (n : ℕ) (f : Fields) (zs : List ℤ) (room : ℕ) (ok : writeVerdict 
   read-written = rw (accepts-written, fields-written)
 
   pub lags-read : lagsRead n (frameOf (header f) (lagWords zs)) ≡ zs
-  lags-read = lag-part-read n (frameOf (header f) (lagWords zs)) accepts-written ∙ lags-written
+  lags-read = lag-part-read n (frameOf (header f) (lagWords zs)) accepts-written ∙ rw kind-written lags-written
 
 -- the same of the calls: the reader is given the first bytes of the buffer that the writer leaves
 module _
@@ -340,38 +439,52 @@ module _
 
 -- what is read is written as the bytes that were read
 module _ (n : ℕ) (s : List ℕ) (bytes : Below 256 s) (ok : readVerdict n s ≡ verdict.Accepted) where
-  body-length : length (bodyOf s) ≡ headWords accumulated + 2 * n + 1
+  -- its kind and header words
+  abbrev kind : ℕ
+  kind = (fieldsOf (bodyOf s)) .kind
+
+  abbrev h : ℕ
+  h = headWords kind
+
+  size : length s ≡ frameLength kind n
+  size = let a = accepted n s ok in rw (a .kind) (a .size)
+
+  body-length : length (bodyOf s) ≡ h + 2 * n + 1
   body-length =
-      let d : length (drop 2 s) ≡ 4 * (8 + 2 * n) = simp length-drop (omega (arith, accepted n s ok .size)) in
+      let d : length (drop 2 s) ≡ 4 * (h + 2 * n + 1) = simp length-drop (omega (arith, size)) in
       omega (arith, length-words (drop 2 s))
 
-  words-again : lagWords (lagNumbers accumulated n (bodyOf s)) ≡ part (headWords accumulated) (2 * n) (bodyOf s)
+  words-again : lagWords (lagNumbers kind n (bodyOf s)) ≡ part h (2 * n) (bodyOf s)
   words-again =
       lags-signed _
-      (below-part wordRange (headWords accumulated) (2 * n) (bodyOf s)
-      (words-below (drop 2 s) (below-drop 256 2 s bytes)))
+      (below-part wordRange h (2 * n) (bodyOf s) (words-below (drop 2 s) (below-drop 256 2 s bytes)))
 
-  pub frame-read : frameOf (header (fieldsOf (bodyOf s))) (lagWords (lagNumbers accumulated n (bodyOf s))) ≡ s
+  pub frame-read : frameOf (header (fieldsOf (bodyOf s))) (lagWords (lagNumbers kind n (bodyOf s))) ≡ s
   frame-read =
       let a = accepted n s ok in
-      rw (words-again, header-fields (bodyOf s) (omega (arith, body-length)) (a .fixed))
-      (frame-again s (headWords accumulated) (2 * n) bytes (omega (arith, a .size)) (a .mark) (a .sum))
+      let sum : summed (h + 2 * n) (bodyOf s) ≡ true = rw (a .kind) (a .sum) in
+      rw (
+        words-again,
+        header-fields (bodyOf s) (omega (arith, body-length, head-least kind)) (omega (arith, body-length)) (a .fixed)
+            (rw (a .kind) (a .bias)),
+      )
+      (frame-again s h (2 * n) bytes (omega (arith, size)) (a .mark) sum)
 
   pub accepts-read : (room : ℕ) → length s ≤ room
-      → writeVerdict n (fieldsOf (bodyOf s)) (lagNumbers accumulated n (bodyOf s)) room ≡ verdict.Accepted
-  accepts-read room h =
+      → writeVerdict n (fieldsOf (bodyOf s)) (lagNumbers kind n (bodyOf s)) room ≡ verdict.Accepted
+  accepts-read room least =
       let a = accepted n s ok in
       written n _ _ room
       (record {
         count = a .count;
         fields = a .fields;
         length =
-            length-map (part (headWords accumulated) (2 * n) (bodyOf s)) signed
-            ∙ length-part (bodyOf s) (headWords accumulated) (2 * n) (omega (arith, body-length));
-        lags = a .lags;
-        fits = omega (arith, a .size);
+            length-map (part h (2 * n) (bodyOf s)) signed
+            ∙ length-part (bodyOf s) h (2 * n) (omega (arith, body-length));
+        lags = rw (a .kind) (a .lags);
+        fits = omega (arith, size);
       })
 
   pub leaves-again : (out : List ℕ) → length s ≤ length out
-      → writeLeaves n (fieldsOf (bodyOf s)) (lagNumbers accumulated n (bodyOf s)) out ≡ splice out 0 s
-  leaves-again out h = rw (accepts-read (length out) h, frame-read)
+      → writeLeaves n (fieldsOf (bodyOf s)) (lagNumbers kind n (bodyOf s)) out ≡ splice out 0 s
+  leaves-again out least = rw (accepts-read (length out) least, frame-read)

@@ -12,6 +12,7 @@ use Rattle.lta_spec.specs.Words.{overAll}
 use Rattle.lta_spec.specs.Tick.{fromByte}
 use Rattle.lta_spec.specs.Shape.{binLimit}
 use Rattle.lta_spec.specs.Place.{Label, Cell}
+use Rattle.lta_spec.specs.Frame.{accumulated, speedFrame, kindOk}
 use Rattle.lta_spec.specs.Call.{idle, discard, commandOk, binIndex}
 use Rattle.lta_spec.specs.Row.{tickRow, fromWord}
 use Rattle.lta_spec.specs.Machine as M
@@ -26,13 +27,16 @@ use Rattle.lta_spec.proofs.ShapeLaws.{index-below}
 use Rattle.lta_spec.proofs.LayoutLaws.{All}
 use Rattle.lta_spec.proofs.RowLaws.{numbers-one, window, window-shift, ago-window, row-same}
 use Rattle.lta_spec.proofs.BlockLaws.{stored, CounterSound, counted-same, counted-sound}
-use Rattle.lta_spec.proofs.Carry.{row, mapCell, mapResult, tick-carry, dump-carry, integrate-carry, empty-carry}
+use Rattle.lta_spec.proofs.Carry.{row, mapCell, mapResult, tick-carry, dump-carry, send-carry, integrate-carry}
+use Rattle.lta_spec.proofs.Carry.{empty-carry}
 use Rattle.lta_spec.proofs.Conserve.{tally, tally-ones, overCell, over-places}
-use Rattle.lta_spec.proofs.Conserve.{tick-total, dump-total, integrate-total, empty-total}
-use Rattle.lta_spec.proofs.Sound.{Sound, LabelSound, tick-sound, dump-sound, integrate-sound, empty-sound}
+use Rattle.lta_spec.proofs.Conserve.{tick-total, dump-total, send-total, integrate-total, empty-total}
+use Rattle.lta_spec.proofs.Sound.{Sound, LabelSound, tick-sound, dump-sound, send-sound, integrate-sound}
+use Rattle.lta_spec.proofs.Sound.{empty-sound}
 
--- a frame that was sent: the bin that it names, and the limits that its set and stamp had there
+-- a frame that was sent: its kind, the bin that it names, and the limits that its set and stamp had
 pub record Sent (B t : ℕ) (e : Emitted) : Type 0 where
+  pub kind : kindOk (e .kind) ≡ true
   pub bank : e .bank < 2
   pub bin : e .bin < B
   pub few : length (e .content .members) ≤ binLimit
@@ -42,7 +46,9 @@ sent-later : (B t : ℕ) (es : List Emitted) → All (Sent B t) es → All (Sent
 sent-later B t [] a = tt
 sent-later B t (e ∷ es) a =
     let s = a .0 in
-    (record { bank = s .bank; bin = s .bin; few = s .few; stamp = omega arith }, sent-later B t es (a .1))
+    let later : Sent B (suc t) e =
+    record { kind = s .kind; bank = s .bank; bin = s .bin; few = s .few; stamp = omega arith } in
+    (later, sent-later B t es (a .1))
 
 -- the machine's cell: as many bytes as ticks, sound, and each tick once in its places
 pub record Good (sh : Shape) (t : ℕ) (m : R.Unit) : Type 0 where
@@ -187,20 +193,22 @@ module _ (sh : Shape) (t : ℕ) (e : E.Unit) (m : R.Unit) (s : Same sh t e m) wh
   -- the block counter of a dump
   pub counter-same : (command : ℕ)
       → E.counted (sh .blocks) command (e .counter)
-      ≡ stored (sh .start) (M.counted (sh .start) (sh .blocks) command (m .counter))
+      ≡ stored (sh .start) (M.counted (sh .start) (sh .blocks) (M.countsAs command) (m .counter))
   counter-same command =
       rw (s .counter) (sym (counted-same (sh .start) (sh .blocks) (m .counter) (s .good .counter) command))
+
+  -- the machine's counter behind a dump
+  abbrev moved : (command : ℕ) → M.Counter
+  moved command = M.counted (sh .start) (sh .blocks) (M.countsAs command) (m .counter)
 
   pub dump-same : (l : Label) (command : ℕ) → commandOk command ≡ true
       → (eqb (l .command) idle ≡ false → eqb (l .command) discard ≡ false → LabelSound B l)
       → Same sh t
       (engineWith ((E.dumpCell n l t (e .cell)) .cell) (E.counted (sh .blocks) command (e .counter)))
-      (machineWith ((M.dumpCell l t (m .cell)) .cell) (M.counted (sh .start) (sh .blocks) command (m .counter))
-      (m .frames))
+      (machineWith ((M.dumpCell l t (m .cell)) .cell) (moved command) (m .frames))
   unfolding mapResult
   dump-same l command ok h =
-      let k : M.Counter = M.counted (sh .start) (sh .blocks) command (m .counter) in
-      change _ _ _ k (m .frames)
+      change _ _ _ (moved command) (m .frames)
       (λ gx gy.
       ap (λ c. (E.dumpCell n l t c) .cell) (s .cell gx gy)
       ∙ sym (ap (λ r. r .cell) (dump-carry n (gx ++ m .xs) (gy ++ m .ys) l t (m .cell))))
@@ -210,7 +218,7 @@ module _ (sh : Shape) (t : ℕ) (e : E.Unit) (m : R.Unit) (s : Same sh t e m) wh
       (λ f.
       omega (
         arith,
-        over-places (tally f) (machineWith ((M.dumpCell l t (m .cell)) .cell) k (m .frames)),
+        over-places (tally f) (machineWith ((M.dumpCell l t (m .cell)) .cell) (moved command) (m .frames)),
         over-places (tally f) m,
         dump-total f (m .cell) (s .good .sound .flat .losses) l t (held-none B t (m .cell) (s .good .sound) f),
       ))
@@ -221,6 +229,30 @@ module _ (sh : Shape) (t : ℕ) (e : E.Unit) (m : R.Unit) (s : Same sh t e m) wh
   dump-answer l =
       ap (λ c. (E.dumpCell n l t c) .answer) (s .cell [] [])
       ∙ sym (ap (λ r. r .answer) (dump-carry n (m .xs) (m .ys) l t (m .cell)))
+
+  -- a speed dump
+  pub send-same : (bank bin command : ℕ) → commandOk command ≡ true → bank < 2 → bin < B
+      → Same sh t (engineWith (E.sendOpen n t (e .cell)) (E.counted (sh .blocks) command (e .counter)))
+      (machineWith (M.sendOpen t (m .cell)) (moved command)
+      (record { kind = speedFrame; bank = bank; bin = bin; content = m .cell .opened } ∷ m .frames))
+  send-same bank bin command ok hk hb =
+      let sent : Emitted = record { kind = speedFrame; bank = bank; bin = bin; content = m .cell .opened } in
+      let f = s .good .sound .flat in
+      change _ _ _ (moved command) (sent ∷ m .frames)
+      (λ gx gy. ap (E.sendOpen n t) (s .cell gx gy) ∙ sym (send-carry n (gx ++ m .xs) (gy ++ m .ys) t (m .cell)))
+      (counter-same command)
+      (send-sound B t (m .cell) (s .good .sound))
+      (counted-sound (sh .start) (sh .blocks) (m .counter) (s .good .counter) command ok)
+      (λ f.
+      omega (
+        arith,
+        over-places (tally f) (machineWith (M.sendOpen t (m .cell)) (moved command) (sent ∷ m .frames)),
+        over-places (tally f) m,
+        send-total f (m .cell) (s .good .sound .flat .losses) t,
+      )) (
+        record { kind = refl; bank = hk; bin = hb; few = omega (arith, f .opened); stamp = f .openStamp },
+        s .good .frames,
+      )
 
   pub integrate-same :
       Same sh t (engineWith ((E.integrateCell n B (e .cell)) .cell) (e .counter))
@@ -255,10 +287,11 @@ module _ (sh : Shape) (t : ℕ) (e : E.Unit) (m : R.Unit) (s : Same sh t e m) wh
       → let k = binIndex B bank bin in
       Same sh t (engineWith (E.emptyBin n k (e .cell)) (e .counter))
       (machineWith (M.emptyBin k (m .cell)) (m .counter)
-      (record { bank = bank; bin = bin; content = (M.binAt k (m .cell)) .content } ∷ m .frames))
+      (record { kind = accumulated; bank = bank; bin = bin; content = (M.binAt k (m .cell)) .content } ∷ m .frames))
   empty-same bank bin hk hb =
       let k = binIndex B bank bin in
-      let sent : Emitted = record { bank = bank; bin = bin; content = (M.binAt k (m .cell)) .content } in
+      let sent : Emitted =
+      record { kind = accumulated; bank = bank; bin = bin; content = (M.binAt k (m .cell)) .content } in
       let b = s .good .sound .bins k in
       change _ _ _ _ (sent ∷ m .frames)
       (λ gx gy. ap (E.emptyBin n k) (s .cell gx gy) ∙ sym (empty-carry n (gx ++ m .xs) (gy ++ m .ys) k (m .cell)))
@@ -273,4 +306,4 @@ module _ (sh : Shape) (t : ℕ) (e : E.Unit) (m : R.Unit) (s : Same sh t e m) wh
         empty-total f (m .cell) (s .good .sound .flat .losses) k
             (omega (arith, index-below B bank bin hk hb, s .good .sound .flat .bins)),
       ))
-      (record { bank = hk; bin = hb; few = b .few; stamp = b .stamp }, s .good .frames)
+      (record { kind = refl; bank = hk; bin = hb; few = b .few; stamp = b .stamp }, s .good .frames)

@@ -1,18 +1,18 @@
 -- The engine's run and the machine's, call by call: the same verdict, the same answer, and the relation kept.
 use Prim.Native.Nat.{ℕ, zero, suc, _+_, _*_, _-_, _≤_, _<_}
 use mathlib.Core.Path.{_≡_, refl, ap, ap₂, _∙_}
-use mathlib.Core.Bool.{Bool, true, false, cond, not, _&&_, _||_}
+use mathlib.Core.Bool.{Bool, true, false, cond, not, _&&_}
 use mathlib.Core.List.{List, [], _∷_, _++_, map}
 use native.Mathlib.Nat.{not-suc-le-zero, le-of-suc-le-suc}
 use native.Mathlib.Omega.{arith}
 use lib.Dec.{ltb, leb, eqb}
 use lib.ListN.{length, getD, set, drop, length-set}
-use borrow.Author.Tests.{ltb-true, leb-true, eqb-false, le-leb, not-true}
+use borrow.Author.Tests.{ltb-true, eqb-false, le-leb, not-true}
 use Rattle.lta_spec.specs.Words.{splice, joined, every}
 use Rattle.lta_spec.specs.Refusals.{firstOf}
 use Rattle.lta_spec.specs.Shape.{runLimit}
-use Rattle.lta_spec.specs.Place.{lossCount}
-use Rattle.lta_spec.specs.Call.{Call, last, idle, discard, commandOk, phaseOk, bankOk, binIndex}
+use Rattle.lta_spec.specs.Place.{Label, Stamped, Cell, lossCount}
+use Rattle.lta_spec.specs.Call.{Call, speed, commandOk, phaseOk, bankOk, binIndex}
 use Rattle.lta_spec.specs.Call.Call.{tick, dump, integrate, emit, reading, forecast, page}
 use Rattle.lta_spec.specs.Answer.Answer.{number, entry}
 use Rattle.lta_spec.specs.Row.{rowSums, rowCounts}
@@ -34,12 +34,12 @@ use Rattle.lta_spec.proofs.SetLaws.{stored-edge, stored-centre, sums-re
 use Rattle.lta_spec.proofs.Carry.{row, mapStamped, mapBin, mapCell, room-carry, forecast-carry}
 use Rattle.lta_spec.proofs.Carry.{bin-carry, loss-carry}
 use Rattle.lta_spec.proofs.LedgerLaws.{counts-carry, ledger-total}
-use Rattle.lta_spec.proofs.BlockLaws.{CounterSound, counted-sound, counter-ok, phase-below}
-use Rattle.lta_spec.proofs.Sound.{LabelSound}
+use Rattle.lta_spec.proofs.BlockLaws.{CounterSound, counted-sound, counter-ok}
+use Rattle.lta_spec.proofs.LabelLaws.{bin-kept, label-kept}
 use Rattle.lta_spec.proofs.Intact.{tick-intact, dump-intact, integrate-intact, emit-intact, read-intact}
 use Rattle.lta_spec.proofs.Intact.{forecast-intact, page-intact}
 use Rattle.lta_spec.proofs.SameCell.{Same, few, tick-same}
-use Rattle.lta_spec.proofs.SameCell.{counter-same, dump-same, dump-answer}
+use Rattle.lta_spec.proofs.SameCell.{counter-same, dump-same, dump-answer, send-same}
 use Rattle.lta_spec.proofs.SameCell.{integrate-same, integrate-answer, empty-same}
 
 -- all cells
@@ -222,7 +222,7 @@ module _ (sh : Shape) (wide : 2 ≤ sh .lags) (t : ℕ) (es : List E.Unit) (ms :
       (λ h.
       passing _ _ _
       (both (le-leb t runLimit limit) (every-same sh t _ (unit-sound sh t (tick-verdict sh t limit h)) es ms units))))
-  verdict-same (dump c command bank phase) =
+  verdict-same (dump c command bank phase out) =
       same-test (ltb c (sh .cells)) _ _ _
       (λ h.
       same-test (commandOk command) _ _ _
@@ -254,28 +254,8 @@ module _ (sh : Shape) (wide : 2 ≤ sh .lags) (t : ℕ) (es : List E.Unit) (ms :
   verdict-same (forecast c) =
       same-test (ltb c (sh .cells)) _ _ _
       (λ h. passing _ _ _ (forecast-passes sh wide t es ms limit cells units c h))
-  verdict-same (page out) = passing _ _ _ (both (le-leb t runLimit limit) (every-same sh t _ (ledger-sound sh t limit) es ms units))
-
--- a label that a dump gives to Held
-command-kept : (c : ℕ) → commandOk c ≡ true → eqb c idle ≡ false → eqb c discard ≡ false → c ≤ last
-unfolding commandOk
-command-kept c ok p q = by-test (leb c last) refl (rw (p, q) at ok)
-  where
-    by-test : (b : Bool) → leb c last ≡ b → b || (false || false) ≡ true → c ≤ last
-    by-test true e h = leb-true c last e
-    by-test false e h = let z : _≡_ {A = ℕ} 0 1 = cc in absurd (omega arith)
-
-label-kept : (sh : Shape) (command bank phase : ℕ) (k : M.Counter) → commandOk command ≡ true
-    → bankOk bank && phaseOk sh phase ≡ true → CounterSound (sh .start) (sh .blocks) k
-    → eqb command idle ≡ false → eqb command discard ≡ false
-    → LabelSound (sh .bins) (M.dumpLabel (sh .start) (sh .blocks) command bank phase (k .block))
-label-kept sh command bank phase k ok rule among p q =
-    let a = and-both (bankOk bank) _ rule in
-    record {
-      command = command-kept command ok p q;
-      bank = ltb-true bank 2 (a .0);
-      bin = phase-below sh phase (k .block - sh .start) (a .1) (omega (arith, among .low, among .high));
-    }
+  verdict-same (page out) =
+      passing _ _ _ (both (le-leb t runLimit limit) (every-same sh t _ (ledger-sound sh t limit) es ms units))
 
 -- a tick, all cells
 tick-units : (sh : Shape) → 2 ≤ sh .lags → (t : ℕ) (samples : List ℕ) (es : List E.Unit) (ms : List R.Unit)
@@ -308,7 +288,8 @@ held-off sh t (e ∷ es) (m ∷ ms) a =
 
 -- the frame of a set is that of its row
 pub set-frame : (sh : Shape) (c : ℕ) (xs ys : List ℕ) (e : Emitted)
-    → S.rowFrame sh c (e .bank) (e .bin) (mapStamped (row (sh .lags) xs ys) (e .content)) ≡ setFrame sh c xs ys e
+    → S.rowFrame sh (e .kind) c (e .bank) (e .bin) (mapStamped (row (sh .lags) xs ys) (e .content))
+    ≡ setFrame sh c xs ys e
 unfolding S.rowFrame setFrame mapStamped
 set-frame sh c xs ys e =
     let n = sh .lags in
@@ -347,23 +328,90 @@ module _ (sh : Shape) (wide : 2 ≤ sh .lags) (t : ℕ) (es : List E.Unit) (ms :
         units = same-set sh t es ms c e′ m′ units s;
       }
 
-  -- the frame of a bin: its row's bytes are its set's, whatever bytes come later
-  pub frame-same : (gx gy : List ℕ) (c bank bin : ℕ) → ltb c (sh .cells) ≡ true
-      → let u = R.unitAt sh c (record { t = t; units = ms }) in
-      S.rowFrame sh c bank bin
-      ((E.binAt (sh .lags) (binIndex (sh .bins) bank bin) (S.cellAt sh c (record { t = t; units = es }))) .content)
-      ≡ setFrame sh c (gx ++ u .xs) (gy ++ u .ys) (R.emitted sh c bank bin (record { t = t; units = ms }))
-  unfolding R.emitted mapBin
-  frame-same gx gy c bank bin h =
+  -- the row of a place of cell c is its set's, whatever bytes come later
+  abbrev pub Carried : (c : ℕ) → Stamped E.Row → Stamped M.Ticks → Type 0
+  Carried c x y =
       let u = R.unitAt sh c (record { t = t; units = ms }) in
-      ap (λ b. S.rowFrame sh c bank bin (b .content))
-      (bin-is sh wide t es ms limit cells units c h gx gy (binIndex (sh .bins) bank bin))
-      ∙ set-frame sh c (gx ++ u .xs) (gy ++ u .ys) (R.emitted sh c bank bin (record { t = t; units = ms }))
+      (gx gy : List ℕ) → x ≡ mapStamped (row (sh .lags) (gx ++ u .xs) (gy ++ u .ys)) y
+
+  pub bin-carried : (c k : ℕ) → ltb c (sh .cells) ≡ true
+      → Carried c ((E.binAt (sh .lags) k (S.cellAt sh c (record { t = t; units = es }))) .content)
+      ((M.binAt k ((R.unitAt sh c (record { t = t; units = ms })) .cell)) .content)
+  unfolding mapBin
+  bin-carried c k h gx gy = ap (λ b. b .content) (bin-is sh wide t es ms limit cells units c h gx gy k)
+
+  pub open-carried : (c : ℕ) → ltb c (sh .cells) ≡ true
+      → Carried c ((S.cellAt sh c (record { t = t; units = es })) .opened)
+      ((R.unitAt sh c (record { t = t; units = ms })) .cell .opened)
+  unfolding mapCell
+  open-carried c h gx gy = ap (λ z. z .opened) (same sh wide t es ms limit cells units c h .cell gx gy)
+
+  -- so the bytes of its frame are the set's
+  pub frame-same : (c : ℕ) (e : Emitted) (x : Stamped E.Row) → Carried c x (e .content) → (gx gy : List ℕ)
+      → let u = R.unitAt sh c (record { t = t; units = ms }) in
+      S.rowFrame sh (e .kind) c (e .bank) (e .bin) x ≡ setFrame sh c (gx ++ u .xs) (gy ++ u .ys) e
+  frame-same c e x carried gx gy =
+      let u = R.unitAt sh c (record { t = t; units = ms }) in
+      ap (S.rowFrame sh (e .kind) c (e .bank) (e .bin)) (carried gx gy)
+      ∙ set-frame sh c (gx ++ u .xs) (gy ++ u .ys) e
+
+  -- a call that sends a frame of cell c, and one that moves its places
+  sends-same : (c : ℕ) (e : Emitted) (x : Stamped E.Row) (ep : Cell E.Row) (ek : E.Counter) (mp : Cell M.Ticks)
+      (mk : M.Counter) (out : List ℕ) → Carried c x (e .content)
+      → let old = S.unitAt sh c (record { t = t; units = es }) in
+      let u = R.unitAt sh c (record { t = t; units = ms }) in
+      Same sh t (record { cell = ep; counter = ek; xs = old .xs; ys = old .ys })
+      (record { cell = mp; counter = mk; frames = e ∷ u .frames; xs = u .xs; ys = u .ys })
+      → SameDone sh (S.sends sh (e .kind) c (e .bank) (e .bin) x ep ek out (record { t = t; units = es }))
+      (R.sends sh c mp mk e out (record { t = t; units = ms }))
+  unfolding S.sends R.sends S.withDump R.withFrame
+  sends-same c e x ep ek mp mk out carried s =
+      record {
+        answer = refl;
+        out = ap (splice out 0) (frame-same c e x carried [] []);
+        run = put-same c _ _ s;
+      }
+
+  abbrev engine : W.Run
+  engine = record { t = t; units = es }
+
+  abbrev machine : R.Run
+  machine = record { t = t; units = ms }
+
+  module _ (c command bank phase : ℕ) (out : List ℕ) (h : ltb c (sh .cells) ≡ true) (ok : commandOk command ≡ true)
+      (rule : bankOk bank && phaseOk sh phase ≡ true) where
+    same-cell : Same sh t (S.unitAt sh c engine) (R.unitAt sh c machine)
+    same-cell = same sh wide t es ms limit cells units c h
+
+    abbrev k : M.Counter
+    k = M.counted (sh .start) (sh .blocks) (M.countsAs command) ((R.unitAt sh c machine) .counter)
+
+    abbrev l : Label
+    l = M.dumpLabel (sh .start) (sh .blocks) command bank phase (k .block)
+
+    among : CounterSound (sh .start) (sh .blocks) k
+    among = counted-sound (sh .start) (sh .blocks) _ (same-cell .good .counter) command ok
+
+    dumps-same : (b : Bool) → eqb command speed ≡ b
+        → SameDone sh (S.dumpsBy sh b c l (E.counted (sh .blocks) command ((S.unitAt sh c engine) .counter)) out engine)
+        (R.dumpsBy b sh c l k out machine)
+    unfolding S.dumpsBy R.dumpsBy S.withDump R.withDump R.speedSent
+    dumps-same true e =
+        let b = bin-kept sh command bank phase k rule among in
+        sends-same c _ _ _ _ _ k out (open-carried c h) (send-same sh t _ _ same-cell bank _ command ok (b .0) (b .1))
+    dumps-same false e =
+        record {
+          answer = ap number (dump-answer sh t _ _ same-cell l);
+          out = refl;
+          run =
+              put-same c _ _
+              (dump-same sh t _ _ same-cell l command ok (label-kept sh command bank phase k ok rule among e));
+        }
 
   pub accepted-same : (call : Call) → firstOf (R.callTests sh (record { t = t; units = ms }) call) ≡ Accepted
       → SameDone sh (S.accepted sh call (record { t = t; units = es }))
       (R.accepted sh call (record { t = t; units = ms }))
-  unfolding S.accepted R.accepted S.withDump R.withDump S.withCell R.withCell R.withFrame R.emitted
+  unfolding S.accepted R.accepted S.withDump R.withDump S.withCell R.withCell R.emitted
   accepted-same (tick samples) v =
       let a = pass (eqb (length samples) (2 * sh .cells)) _ _ v in
       let b = pass (not (eqb t runLimit)) _ _ (a .1) in
@@ -378,24 +426,13 @@ module _ (sh : Shape) (wide : 2 ≤ sh .lags) (t : ℕ) (es : List E.Unit) (ms :
               units = tick-units sh wide t samples es ms units;
             };
       }
-  accepted-same (dump c command bank phase) v =
+  accepted-same (dump c command bank phase out) v =
       let a = pass (ltb c (sh .cells)) _ _ v in
       let b = pass (commandOk command) _ _ (a .1) in
       let d = pass (bankOk bank && phaseOk sh phase) _ _ (b .1) in
       let s = at sh wide t es ms limit cells units c (a .0) in
-      let u = R.unitAt sh c (record { t = t; units = ms }) in
-      let k : M.Counter = M.counted (sh .start) (sh .blocks) command (u .counter) in
-      let l = M.dumpLabel (sh .start) (sh .blocks) command bank phase (k .block) in
-      let among = counted-sound (sh .start) (sh .blocks) (u .counter) (s .good .counter) command (b .0) in
-      rw (counter-same sh t _ _ s command)
-      (record {
-        answer = ap number (dump-answer sh t _ _ s l);
-        out = refl;
-        run =
-            put-same c _ _
-            (rw (← counter-same sh t _ _ s command)
-            (dump-same sh t _ _ s l command (b .0) (label-kept sh command bank phase k (b .0) (d .0) among)));
-      })
+      let same = dumps-same c command bank phase out (a .0) (b .0) (d .0) (eqb command speed) refl in
+      rw (counter-same sh t _ _ s command) (rw (counter-same sh t _ _ s command) at same)
   accepted-same (integrate c) v =
       let a = pass (ltb c (sh .cells)) _ _ v in
       let s = at sh wide t es ms limit cells units c (a .0) in
@@ -409,13 +446,8 @@ module _ (sh : Shape) (wide : 2 ≤ sh .lags) (t : ℕ) (es : List E.Unit) (ms :
       let b = pass (bankOk bank && ltb bin (sh .bins)) _ _ (a .1) in
       let d = and-both (bankOk bank) (ltb bin (sh .bins)) (b .0) in
       let s = at sh wide t es ms limit cells units c (a .0) in
-      record {
-        answer = refl;
-        out = ap (splice out 0) (frame-same [] [] c bank bin (a .0));
-        run =
-            put-same c _ _
-            (empty-same sh t _ _ s bank bin (ltb-true bank 2 (d .0)) (ltb-true bin (sh .bins) (d .1)));
-      }
+      sends-same c _ _ _ _ _ _ out (bin-carried c (binIndex (sh .bins) bank bin) (a .0))
+      (empty-same sh t _ _ s bank bin (ltb-true bank 2 (d .0)) (ltb-true bin (sh .bins) (d .1)))
   accepted-same (reading c lag loss) v =
       let a = pass (ltb c (sh .cells)) _ _ v in
       let b = pass (ltb lag (sh .lags) && (leb 1 loss && leb loss lossCount)) _ _ (a .1) in

@@ -87,6 +87,10 @@ module _ (B t : ℕ) (c : Cell Ticks) (s : Sound B t c) where
   unfolding M.dumpCell
   dump-sound l h = dumpBy-sound _ _ _ l h
 
+  pub send-sound : Sound B t (M.sendOpen t c)
+  unfolding M.sendOpen M.binAt
+  send-sound = let f = s .flat in record { flat = omega arith; bins = s .bins }
+
   release-sound : (k : ℕ) (b : Bin Ticks) (ls : List Ticks) → BinSound t b → length ls ≡ lossCount
       → Sound B t (M.release k b ls c)
   unfolding M.release M.binAt

@@ -63,11 +63,13 @@ abbrev pub tickedAs : Ticked → Answer
 tickedAs (ticked.HeldOff n) = number n
 tickedAs (ticked.Refused r) = refusal r
 
--- "a dump or integration, the loss number (4 if an old bin was replaced) .., 0 if kept, 7 for 111"
+-- "a dump or integration, the loss number (4 if an old bin was replaced) .., 0 if kept, 7 for 111"; of 011, by request
+-- 2026-04, the length of its frame
 abbrev pub movedAs : Moved → Answer
 movedAs moved.Kept = number 0
 movedAs (moved.Lost l) = number (lossNumber l)
 movedAs moved.Idle = number 7
+movedAs (moved.Sent n) = number n
 movedAs (moved.Refused r) = refusal r
 
 -- "an emission, the frame's length"; the writer too "answers the frame's length"; of a page "its length is the answer"

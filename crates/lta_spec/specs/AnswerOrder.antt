@@ -3,18 +3,19 @@
 -- proves them.
 use Prim.Native.Nat.{ℕ, _+_}
 use mathlib.Core.Path.{_≡_}
+use mathlib.Core.Bool.{true, false}
 use mathlib.Core.List.{List, [], _∷_, _++_, map}
 use lib.IntN.{pos}
 use lib.ListN.{replicate}
 use Rattle.lta_spec.specs.Shape.{runLimit}
 use Rattle.lta_spec.specs.Place.{Held, Stamped, Cell}
 use Rattle.lta_spec.specs.Bytes.{bytesOf}
-use Rattle.lta_spec.specs.Frame.{mark}
+use Rattle.lta_spec.specs.Frame.{mark, accumulated}
 use Rattle.lta_spec.specs.FrameCalls.{readAnswer, writeAnswer, normalAnswer}
-use Rattle.lta_spec.specs.Call.{Call, emittedFields}
+use Rattle.lta_spec.specs.Call.{Call, commandOk, emittedFields}
 use Rattle.lta_spec.specs.Call.Call.{tick, dump, integrate, emit, reading, forecast, page}
 use Rattle.lta_spec.specs.Answer.{Answer}
-use Rattle.lta_spec.specs.Answer.Answer.{refused, number}
+use Rattle.lta_spec.specs.Answer.Answer.{refused, number, fields}
 use Rattle.lta_spec.specs.Engine.{Row, Counter, stamped, freshUnit}
 use Rattle.lta_spec.specs.Memory.{runL}
 use Rattle.lta_spec.specs.Step.{step}
@@ -73,9 +74,21 @@ refusals ks = map refused ks
 abbrev pub zeroFrame : (sum : ℕ) → List ℕ
 zeroFrame sum = mark ++ bytesOf (replicate 11 0 ++ sum ∷ [])
 
+-- the bytes of a speed frame of one tick without a valid product, with this kind in W0, DATA_BIAS and sum; and those of
+-- a frame without DATA_BIAS
+abbrev pub speedWords : (kind bias sum : ℕ) → List ℕ
+speedWords kind bias sum = mark ++ bytesOf (kind ∷ 0 ∷ 1 ∷ replicate 4 0 ++ bias ∷ replicate 4 0 ++ sum ∷ [])
+
+abbrev pub shortWords : (kind sum : ℕ) → List ℕ
+shortWords kind sum = mark ++ bytesOf (kind ∷ 0 ∷ 1 ∷ replicate 8 0 ++ sum ∷ [])
+
+-- their fields
+abbrev pub tickFields : (kind : ℕ) → Fields
+tickFields kind = emittedFields scriptShape kind 0 0 0 0 1 0 0
+
 -- the fields of a frame without ticks
 abbrev pub noTicks : Fields
-noTicks = emittedFields scriptShape 0 0 0 0 0 0 0
+noTicks = emittedFields scriptShape accumulated 0 0 0 0 0 0 0
 
 pub record Orders : Type 0 where
   -- "3 .. 4 .. Then 11": the run is full, and 256 is no entry of a register
@@ -83,15 +96,37 @@ pub record Orders : Type 0 where
   pub sampler-last : returned (memWith 0 0 256) (tick (0 ∷ []) ∷ tick (0 ∷ 0 ∷ []) ∷ []) ≡ refusals (3 ∷ 11 ∷ [])
   -- "Order 5, 6, 7, 11, for every command": t is too high; then a flag of 2
   pub commander : returned (memWith (runLimit + 1) 0 0)
-      (dump 1 3 2 0 ∷ dump 0 3 2 0 ∷ dump 0 2 2 0 ∷ dump 0 4 2 0 ∷ dump 0 7 2 0 ∷ [])
+      (dump 1 5 2 0 [] ∷ dump 0 5 2 0 [] ∷ dump 0 2 2 0 [] ∷ dump 0 4 2 0 [] ∷ dump 0 7 2 0 [] ∷ [])
       ≡ refusals (5 ∷ 6 ∷ 7 ∷ 7 ∷ 7 ∷ [])
-  pub commander-last : returned (memWith 0 2 0) (dump 0 2 0 0 ∷ dump 0 4 0 0 ∷ dump 0 7 0 0 ∷ [])
+  pub commander-last : returned (memWith 0 2 0) (dump 0 2 0 0 [] ∷ dump 0 4 0 0 [] ∷ dump 0 7 0 0 [] ∷ [])
       ≡ refusals (11 ∷ 11 ∷ 11 ∷ [])
+  -- request 2026-04, "Refusal 6 no longer covers 011": 000 to 100, and 111
+  pub commands : map commandOk (0 ∷ 1 ∷ 2 ∷ 3 ∷ 4 ∷ 5 ∷ 6 ∷ 7 ∷ 8 ∷ 4294967299 ∷ [])
+      ≡ true ∷ true ∷ true ∷ true ∷ true ∷ false ∷ false ∷ true ∷ false ∷ false ∷ []
+  -- 011, "10 applies to it last": no such cell, no such bank, t is too high, a flag of 2; then buffers around a frame
+  pub speeder : returned (memWith (runLimit + 1) 0 0) (dump 1 3 2 0 [] ∷ dump 0 3 2 0 [] ∷ dump 0 3 0 0 [] ∷ [])
+      ≡ refusals (5 ∷ 7 ∷ 11 ∷ [])
+  pub speeder-damage : returned (memWith 0 2 0) (dump 0 3 0 0 [] ∷ []) ≡ refusals (11 ∷ [])
+  pub speeder-last : returned (memWith 0 1 0)
+      (dump 0 3 0 0 [] ∷ dump 0 3 0 0 (bytes 53) ∷ dump 0 3 0 0 (bytes 54) ∷ dump 0 3 0 0 (bytes 55) ∷ [])
+      ≡ refused 10 ∷ refused 10 ∷ number 54 ∷ number 54 ∷ []
+  -- no other command wants a buffer
+  pub speeder-others : returned (memWith 0 0 0)
+      (dump 0 0 0 0 [] ∷ dump 0 1 0 0 [] ∷ dump 0 2 0 0 [] ∷ dump 0 4 0 0 [] ∷ dump 0 7 0 0 [] ∷ [])
+      ≡ number 0 ∷ number 0 ∷ number 0 ∷ number 1 ∷ number 7 ∷ []
+  -- it adds to no loss: loss 1 is full, and Open has a tick
+  pub speeder-losses : returned
+      (memPlaces (stamped (ticksRow 1) 7) (map ticksRow (2147483648 ∷ 0 ∷ 0 ∷ 0 ∷ 0 ∷ 0 ∷ [])))
+      (dump 0 4 0 0 (bytes 54) ∷ dump 0 3 0 0 (bytes 54) ∷ [])
+      ≡ refused 11 ∷ number 54 ∷ []
   -- request 2026-01, M=1: a block past the last one, a last command that is none of 000, 001, 010 and 100
   pub counter-block : returned (memCounted (counterWith 1 0) 0 0 0)
-      (dump 0 3 2 0 ∷ dump 0 2 2 0 ∷ dump 0 2 0 2 ∷ dump 0 2 0 0 ∷ dump 0 4 0 0 ∷ dump 0 7 0 0 ∷ [])
-      ≡ refusals (6 ∷ 7 ∷ 7 ∷ 11 ∷ 11 ∷ 11 ∷ [])
-  pub counter-command : map (λ code. (step scriptShape (dump 0 2 0 1) (memCounted (counterWith 0 code) 0 0 0)) .answer)
+      (dump 0 5 2 0 [] ∷ dump 0 2 2 0 [] ∷ dump 0 2 0 2 [] ∷ dump 0 2 0 0 [] ∷ dump 0 3 0 0 [] ∷ dump 0 4 0 0 []
+      ∷ dump 0 7 0 0 []
+      ∷ [])
+      ≡ refusals (6 ∷ 7 ∷ 7 ∷ 11 ∷ 11 ∷ 11 ∷ 11 ∷ [])
+  pub counter-command :
+      map (λ code. (step scriptShape (dump 0 2 0 1 []) (memCounted (counterWith 0 code) 0 0 0)) .answer)
       (0 ∷ 1 ∷ 2 ∷ 3 ∷ 4 ∷ 5 ∷ 6 ∷ 8 ∷ [])
       ≡ number 0 ∷ number 0 ∷ number 0 ∷ number 0 ∷ refused 11 ∷ number 0 ∷ refused 11 ∷ refused 11 ∷ []
   -- no other call tests them
@@ -135,8 +170,29 @@ pub record Orders : Type 0 where
   pub sender : readAnswer 3 [] ∷ map (readAnswer 2) ([] ∷ replicate 50 0 ∷ zeroFrame 1 ∷ zeroFrame 0 ∷ [])
       ≡ refusals (1 ∷ 13 ∷ 14 ∷ 15 ∷ 16 ∷ [])
   pub normaliser : normalAnswer 2 (zeroFrame 0) 2 ∷ normalAnswer 2 scriptFrame 2 ∷ [] ≡ refusals (16 ∷ 12 ∷ [])
+  -- request 2026-04: "13 when the length is neither kind's", 15 with DATA_BIAS in the sum, "16 when W0 names the kind
+  -- of the other length" or none, 18 "tested after 16"; 12 behind 18
+  pub sender-kinds : map (readAnswer 2)
+      (replicate 52 0
+      ∷ speedWords 3 98 100
+      ∷ speedWords 2 97 100
+      ∷ speedWords 4 97 102
+      ∷ shortWords 3 4
+      ∷ speedWords 3 97 101
+      ∷ speedWords 3 196 200
+      ∷ [])
+      ≡ refusals (13 ∷ 15 ∷ 16 ∷ 16 ∷ 16 ∷ 18 ∷ 18 ∷ [])
+  pub sender-takes : map (readAnswer 2) (speedWords 3 98 102 ∷ shortWords 2 3 ∷ [])
+      ≡ fields (tickFields 3) ∷ fields (tickFields 2) ∷ []
+  pub normaliser-kinds : map (λ s. normalAnswer 2 s 2) (speedWords 3 97 101 ∷ speedWords 3 98 102 ∷ [])
+      ≡ refusals (18 ∷ 12 ∷ [])
   -- "Writing fields: 1, 16, 10"
   pub writer : writeAnswer 3 noTicks [] 0
       ∷ writeAnswer 2 noTicks [] 0
       ∷ writeAnswer 2 noTicks (replicate 4 (pos 0)) 0
       ∷ [] ≡ refusals (1 ∷ 16 ∷ 10 ∷ [])
+  -- "The writer takes the kind too, 2 or 3, else 16": kinds 0 to 4 without room, and rooms for kind 3
+  pub writer-kinds : map (λ kind. writeAnswer 2 (tickFields kind) (replicate 4 (pos 0)) 0) (0 ∷ 1 ∷ 2 ∷ 3 ∷ 4 ∷ [])
+      ≡ refusals (16 ∷ 16 ∷ 10 ∷ 10 ∷ 16 ∷ [])
+  pub writer-room : map (writeAnswer 2 (tickFields 3) (replicate 4 (pos 0))) (50 ∷ 53 ∷ 54 ∷ [])
+      ≡ refused 10 ∷ refused 10 ∷ number 54 ∷ []

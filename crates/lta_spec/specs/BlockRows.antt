@@ -1,8 +1,9 @@
--- Request 2026-01: lists of calls, and the block that each ends with. proofs/BlockRows.antt proves them, of the machine
--- by computing and of work memory by demand 3.
+-- Requests 2026-01 and 2026-04: lists of calls, and the block that each ends with. proofs/BlockRows.antt proves them,
+-- of the machine by computing and of work memory by demand 3.
 use Prim.Native.Nat.{ℕ, _+_, _<_}
 use mathlib.Core.Path.{_≡_}
 use mathlib.Core.List.{List, [], _∷_, _++_, map}
+use lib.ListN.{replicate}
 use Rattle.lta_spec.specs.Call.{Call}
 use Rattle.lta_spec.specs.Call.Call.{dump, integrate}
 use Rattle.lta_spec.specs.MachineRun as R
@@ -34,9 +35,13 @@ threeBlocks = record { cells = 1; lags = 2; bins = 6; blocks = 3; start = 20; ra
 abbrev pub oneBlock : Shape
 oneBlock = record { cells = 1; lags = 2; bins = 2; blocks = 1; start = 7; rate = 1; second = 0 }
 
+-- a buffer with room for a speed frame of two lags
+abbrev pub speedRoom : List ℕ
+speedRoom = replicate 54 9
+
 -- a dump in phase 1
 abbrev pub dumped : (command : ℕ) → Call
-dumped command = dump 0 command 1 1
+dumped command = dump 0 command 1 1 speedRoom
 
 -- dumps with these commands, Held emptied behind each
 abbrev pub dumps : List ℕ → List Call
@@ -70,11 +75,19 @@ pub record BlockRows : Type 0 where
   -- an overrun moves the block, and counts as a command
   pub overrun : Ends threeBlocks (dumped 0 ∷ dumps (1 ∷ []) ++ dumped 1 ∷ []) 22 5
   pub overrun-counts : Ends threeBlocks (dumped 0 ∷ dumps (2 ∷ []) ++ dumped 2 ∷ []) 21 4
-  -- a dump that 6 or 7 refuses does neither
-  pub refused : Ends threeBlocks (dumps (0 ∷ 1 ∷ 3 ∷ []) ++ dump 0 4 1 2 ∷ dump 0 2 2 1 ∷ dumped 1 ∷ []) 22 5
-  pub refused-counts-not : Ends threeBlocks (dumps (0 ∷ 1 ∷ []) ++ dump 0 4 1 2 ∷ dumped 2 ∷ []) 20 3
+  -- request 2026-04, of 011: "For the block counter it counts as a 001", and it leaves Held and its label
+  pub first-speed : Ends threeBlocks (dumps (3 ∷ []) ++ dumped 0 ∷ []) 21 4
+  pub speed-one-on : Ends threeBlocks (dumps (0 ∷ []) ++ dumped 3 ∷ []) 21 3
+  pub speed-behind-save : Ends threeBlocks (dumps (0 ∷ 0 ∷ 3 ∷ []) ++ dumped 1 ∷ []) 20 3
+  pub last-behind-speed : Ends threeBlocks (dumps (0 ∷ 3 ∷ []) ++ dumped 2 ∷ []) 20 3
+  pub speed-behind-last : Ends threeBlocks (dumps (0 ∷ 2 ∷ 3 ∷ []) ++ dumped 2 ∷ []) 20 3
+  pub speed-over-held : Ends threeBlocks (dumped 0 ∷ dumped 3 ∷ []) 21 3
+  -- a dump that 6, 7 or 10 refuses does neither
+  pub refused : Ends threeBlocks
+      (dumps (0 ∷ 1 ∷ 5 ∷ []) ++ dump 0 4 1 2 [] ∷ dump 0 2 2 1 [] ∷ dump 0 3 1 1 (replicate 53 9) ∷ dumped 1 ∷ []) 22 5
+  pub refused-counts-not : Ends threeBlocks (dumps (0 ∷ 1 ∷ []) ++ dump 0 4 1 2 [] ∷ dumped 2 ∷ []) 20 3
   -- every accepted dump, on any work memory, names a data bin of its bank
-  pub bin-below : (sh : Shape) (mem : List ℕ) (c command bank phase : ℕ)
-      → S.verdict sh mem (dump c command bank phase) ≡ Accepted
+  pub bin-below : (sh : Shape) (mem : List ℕ) (c command bank phase : ℕ) (out : List ℕ)
+      → S.verdict sh mem (dump c command bank phase out) ≡ Accepted
       → let k = E.counted (sh .blocks) command ((S.unitAt sh c ((runL sh) .get mem)) .counter) in
       (E.dumpLabel (sh .blocks) command bank phase (k .offset)) .bin < sh .bins

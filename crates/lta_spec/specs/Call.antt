@@ -1,16 +1,16 @@
 -- The calls on a run, and the rules on their arguments.
 use Prim.Native.Nat.{ℕ, suc, _+_, _*_, _/_, _%_}
-use mathlib.Core.Bool.{Bool, _||_}
+use mathlib.Core.Bool.{Bool, not, _||_}
 use mathlib.Core.List.{List, []}
 use lib.Dec.{leb, ltb, eqb}
-use Rattle.lta_spec.specs.Frame.{accumulated}
+use Rattle.lta_spec.specs.Frame.{speedFrame, frameLength}
 use Rattle.lta_spec.specs.declared.Shape.{Shape}
 use Rattle.lta_spec.specs.declared.Fields.{Fields}
 
 -- a call with its own arguments; shape and work memory stand beside it
 pub data Call : Type 0 where
   tick : (samples : List ℕ) → Call
-  dump : (cell command bank phase : ℕ) → Call
+  dump : (cell command bank phase : ℕ) (out : List ℕ) → Call
   integrate : (cell : ℕ) → Call
   emit : (cell bank bin : ℕ) (out : List ℕ) → Call
   reading : (cell lag loss : ℕ) → Call
@@ -20,14 +20,14 @@ pub data Call : Type 0 where
 -- the buffer that a call is lent
 abbrev pub lentTo : Call → List ℕ
 lentTo (tick samples) = []
-lentTo (dump cell command bank phase) = []
+lentTo (dump cell command bank phase out) = out
 lentTo (integrate cell) = []
 lentTo (emit cell bank bin out) = out
 lentTo (reading cell lag loss) = []
 lentTo (forecast cell) = []
 lentTo (page out) = out
 
--- dump commands, three binary digits: 000, 001, 010, 100, 111
+-- dump commands, three binary digits: 000, 001, 010, 011, 100, 111
 abbrev pub save : ℕ
 save = 0
 
@@ -37,15 +37,22 @@ add = 1
 abbrev pub last : ℕ
 last = 2
 
+abbrev pub speed : ℕ
+speed = 3
+
 abbrev pub discard : ℕ
 discard = 4
 
 abbrev pub idle : ℕ
 idle = 7
 
--- what is not refused by 6, "command 011, 101, 110 or above 111"
+-- what is not refused by 6, "command 011, 101, 110 or above 111"; request 2026-04: "Refusal 6 no longer covers 011"
 unfoldable pub commandOk : ℕ → Bool
-commandOk c = leb c last || (eqb c discard || eqb c idle)
+commandOk c = leb c discard || eqb c idle
+
+-- 10 of a dump: "Other commands leave that buffer alone", whatever its length
+unfoldable pub dumpFits : (n command room : ℕ) → Bool
+dumpFits n command room = not (eqb command speed) || leb (frameLength speedFrame n) room
 
 -- "Accepted only if .. (phase + 1) × M ≤ B": the data bins of a phase, one for each block, are all there
 unfoldable pub phaseOk : Shape → (phase : ℕ) → Bool
@@ -58,11 +65,12 @@ bankOk bank = ltb bank 2
 abbrev pub binIndex : (bins bank bin : ℕ) → ℕ
 binIndex bins bank bin = bank * bins + bin
 
--- the fields of an emitted frame: "Y block, S + (data bin mod M)", "W5: Z + stamp div R. W6: bits 0-28 stamp mod R"
-unfoldable pub emittedFields : Shape → (cell bank bin stamp ticks edge centre : ℕ) → Fields
-emittedFields sh cell bank bin stamp ticks edge centre =
+-- the fields of a frame that a run sends: "Y block, S + (data bin mod M)", "W5: Z + stamp div R. W6: bits 0-28 stamp
+-- mod R"
+unfoldable pub emittedFields : Shape → (kind cell bank bin stamp ticks edge centre : ℕ) → Fields
+emittedFields sh kind cell bank bin stamp ticks edge centre =
     record {
-      kind = accumulated;
+      kind = kind;
       cell = cell;
       block = sh .start + bin % sh .blocks;
       bin = bin;

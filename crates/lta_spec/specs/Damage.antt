@@ -7,7 +7,7 @@ use Rattle.lta_spec.specs.Words.{overAll, every}
 use Rattle.lta_spec.specs.Shape.{openLimit, binLimit, runLimit}
 use Rattle.lta_spec.specs.Place.{Label, Stamped, Held, Bin, Cell, ready}
 use Rattle.lta_spec.specs.Place.{ordered, overrun, full, replaced, tooWide, holdoff}
-use Rattle.lta_spec.specs.Call.{last, discard, idle, bankOk}
+use Rattle.lta_spec.specs.Call.{last, speed, discard, idle, bankOk}
 use Rattle.lta_spec.specs.Row.{ticksOf, rowOk, entryOk}
 use Rattle.lta_spec.specs.Engine.{Row, Counter, Unit, lossAt, binAt, hasRoom, isReplacing, isTooWide, heldBin}
 
@@ -68,9 +68,13 @@ unfoldable pub dumpParts : (bins t : ℕ) → Cell Row → Bool
 dumpParts bins t c =
     openOk t c && (heldOk t (c .held) && (labelOk bins (c .held .label) && lossesOk (c .losses)))
 
+-- 111 and 011 add to no loss
+unfoldable pub losesNone : (command : ℕ) → Bool
+losesNone command = eqb command idle || eqb command speed
+
 unfoldable pub dumpSound : (n bins t command : ℕ) → Cell Row → Bool
 dumpSound n bins t command c =
-    dumpParts bins t c && dumpHolds n (eqb command idle) (eqb command discard) (eqb (c .held .occupied) 1) c
+    dumpParts bins t c && dumpHolds n (losesNone command) (eqb command discard) (eqb (c .held .occupied) 1) c
 
 -- with the cell's block counter
 unfoldable pub dumpUnitSound : (n bins blocks t command : ℕ) → Unit → Bool

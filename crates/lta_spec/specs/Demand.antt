@@ -2,7 +2,7 @@
 -- end to end". proofs/Demand.antt proves it.
 use Prim.Native.Nat.{ℕ, zero, suc, _+_, _*_, _/_, _%_, _≤_, _<_}
 use mathlib.Core.Path.{_≡_}
-use mathlib.Core.Bool.{Bool, cond}
+use mathlib.Core.Bool.{Bool, cond, _&&_}
 use mathlib.Core.List.{List, [], _∷_, _++_, map, List·Memᴰ}
 use lib.Dec.{eqb}
 use lib.IntN.{ℤ, pos, _+ℤ_}
@@ -12,9 +12,9 @@ use Rattle.lta_spec.specs.Refusals.{firstOf}
 use Rattle.lta_spec.specs.Size.{memoryWords, hostTests}
 use Rattle.lta_spec.specs.Tick.{edgeLag, centreLag}
 use Rattle.lta_spec.specs.Place.{Stamped, Cell}
-use Rattle.lta_spec.specs.Frame.{accumulated, frameLength, bodyOf, fieldsOf}
+use Rattle.lta_spec.specs.Frame.{bodyOf, fieldsOf}
 use Rattle.lta_spec.specs.FrameCalls.{readAnswer}
-use Rattle.lta_spec.specs.Call.{Call}
+use Rattle.lta_spec.specs.Call.{Call, speed}
 use Rattle.lta_spec.specs.Answer.{Answer, numberIn}
 use Rattle.lta_spec.specs.Call.Call.{tick, dump, integrate, emit, reading, forecast, page}
 use Rattle.lta_spec.specs.Answer.Answer.{refused, fields}
@@ -170,31 +170,32 @@ abbrev pub ticksBelow : ℕ → Ticks
 ticksBelow zero = []
 ticksBelow (suc t) = t ∷ ticksBelow t
 
--- the frames of cell c, newest first: "in a frame's words as its call left them"
-abbrev pub frameIf : (named : Bool) (n : ℕ) → Answer → List ℕ → List (List ℕ)
-frameIf named n a out = cond named (map (λ k. take (frameLength accumulated n) out) (numberIn a)) []
+-- the frames of cell c, newest first, as many bytes of the buffer as the call answered: "in a frame's words as its call
+-- left them". Request 2026-04: "a speed frame counts among the emitted ones".
+abbrev pub frameIf : (named : Bool) → Answer → List ℕ → List (List ℕ)
+frameIf named a out = cond named (map (λ k. take k out) (numberIn a)) []
 
-abbrev pub frameReturned : (n c : ℕ) → Listed → Returned → List (List ℕ)
-frameReturned n c (onRun (emit d bank bin out)) t = frameIf (eqb d c) n (t .answer) (t .out)
-frameReturned n c (onRun (tick samples)) t = []
-frameReturned n c (onRun (dump d command bank phase)) t = []
-frameReturned n c (onRun (integrate d)) t = []
-frameReturned n c (onRun (reading d lag loss)) t = []
-frameReturned n c (onRun (forecast d)) t = []
-frameReturned n c (onRun (page out)) t = []
-frameReturned n c (onOther shape call given) t = []
+abbrev pub frameReturned : (c : ℕ) → Listed → Returned → List (List ℕ)
+frameReturned c (onRun (emit d bank bin out)) t = frameIf (eqb d c) (t .answer) (t .out)
+frameReturned c (onRun (dump d command bank phase out)) t = frameIf (eqb command speed && eqb d c) (t .answer) (t .out)
+frameReturned c (onRun (tick samples)) t = []
+frameReturned c (onRun (integrate d)) t = []
+frameReturned c (onRun (reading d lag loss)) t = []
+frameReturned c (onRun (forecast d)) t = []
+frameReturned c (onRun (page out)) t = []
+frameReturned c (onOther shape call given) t = []
 
-abbrev pub framesReturned : (n c : ℕ) → List Listed → List Returned → List (List ℕ)
-framesReturned n c [] ts = []
-framesReturned n c (l ∷ ls) [] = []
-framesReturned n c (l ∷ ls) (t ∷ ts) = framesReturned n c ls ts ++ frameReturned n c l t
+abbrev pub framesReturned : (c : ℕ) → List Listed → List Returned → List (List ℕ)
+framesReturned c [] ts = []
+framesReturned c (l ∷ ls) [] = []
+framesReturned c (l ∷ ls) (t ∷ ts) = framesReturned c ls ts ++ frameReturned c l t
 
--- The fields of the frame of a set, "The frame" again in numbers: W0 the cell, W1 Y block, data bin and bank, W2 to W4
--- ticks, centre and edge count, W5 the second and W6 the ticks of the stamp.
+-- The fields of the frame of a set, "The frame" again in numbers: W0 its kind and the cell, W1 Y block, data bin and
+-- bank, W2 to W4 ticks, centre and edge count, W5 the second and W6 the ticks of the stamp.
 abbrev pub sentFields : Shape → (c : ℕ) (xs ys : List ℕ) → Emitted → Fields
 sentFields sh c xs ys e =
     record {
-      kind = 2;
+      kind = e .kind;
       cell = c;
       block = sh .start + e .bin % sh .blocks;
       bin = e .bin;
@@ -261,7 +262,7 @@ pub record Demand3 (sh : Shape) (cs : List Listed) : Type 0 where
       (M.unitAt sh c (machineAfter sh cs))
   -- every emitted frame: its bytes as its call left them are those of its set's numbers
   pub frames : (c : ℕ) → c < sh .cells
-      → framesReturned (sh .lags) c cs (engineReturns sh cs (freshMem sh))
+      → framesReturned c cs (engineReturns sh cs (freshMem sh))
       ≡ map (setFrame sh c ((M.unitAt sh c (machineAfter sh cs)) .xs) ((M.unitAt sh c (machineAfter sh cs)) .ys))
       ((M.unitAt sh c (machineAfter sh cs)) .frames)
   -- each tick taken is in exactly one place of every cell, and nothing else is in any
@@ -276,12 +277,12 @@ pub record Demand3 (sh : Shape) (cs : List Listed) : Type 0 where
   -- every emitted frame, read back, is the machine's in numbers
   pub read-back : (c : ℕ) → c < sh .cells
       → let u = M.unitAt sh c (machineAfter sh cs) in
-      AllRead sh c (u .xs) (u .ys) (framesReturned (sh .lags) c cs (engineReturns sh cs (freshMem sh))) (u .frames)
+      AllRead sh c (u .xs) (u .ys) (framesReturned c cs (engineReturns sh cs (freshMem sh))) (u .frames)
   -- of every cell and lag, the numbers in work memory and those of the frames read back are, added up, the numbers of
   -- all ticks taken
   pub totals : (c k : ℕ) → c < sh .cells → k < sh .lags
       → let u = M.unitAt sh c (machineAfter sh cs) in
       AddUp
       (map (rowSums k) (rows (S.cellAt sh c ((runL sh) .get (memAfter sh cs))))
-      ++ map (readSums (sh .lags) k) (framesReturned (sh .lags) c cs (engineReturns sh cs (freshMem sh))))
+      ++ map (readSums (sh .lags) k) (framesReturned c cs (engineReturns sh cs (freshMem sh))))
       (setSums (sh .lags) (u .xs) (u .ys) (ticksBelow ((machineAfter sh cs) .t)) k)

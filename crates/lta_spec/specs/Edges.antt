@@ -39,6 +39,10 @@ use Rattle.lta_spec.specs.declared.Loss.the-variants.{Ordered, Overrun, 
 abbrev pub scriptShape : Shape
 scriptShape = record { cells = 1; lags = 2; bins = 2; blocks = 1; start = 0; rate = 4; second = 0 }
 
+-- the buffer that the script program lends: room for a frame of either kind
+abbrev pub scriptLent : List ℕ
+scriptLent = replicate 54 0
+
 -- "TK 02 03, TK 01 0F, TK 08 02 (hexadecimal), DP 0 2 0 0 0, IN 0, EM 0 0 0, IN 0", the DP without its last number by
 -- request 2026-01
 abbrev pub script : List Listed
@@ -46,9 +50,9 @@ script =
     onRun (tick (2 ∷ 3 ∷ []))
     ∷ onRun (tick (1 ∷ 15 ∷ []))
     ∷ onRun (tick (8 ∷ 2 ∷ []))
-    ∷ onRun (dump 0 2 0 0)
+    ∷ onRun (dump 0 2 0 0 scriptLent)
     ∷ onRun (integrate 0)
-    ∷ onRun (emit 0 0 0 (replicate 50 0))
+    ∷ onRun (emit 0 0 0 scriptLent)
     ∷ onRun (integrate 0)
     ∷ []
 
@@ -61,9 +65,9 @@ scriptReturned =
     answerOnly (number 0)
     ∷ answerOnly (number 0)
     ∷ answerOnly (number 0)
+    ∷ record { answer = number 0; out = scriptLent }
     ∷ answerOnly (number 0)
-    ∷ answerOnly (number 0)
-    ∷ record { answer = number 50; out = scriptFrame }
+    ∷ record { answer = number 50; out = scriptFrame ++ replicate 4 0 }
     ∷ answerOnly (refused 8)
     ∷ []
 
@@ -89,7 +93,7 @@ abbrev pub allRefusals : List Refusal
 allRefusals =
     no.BadShape ∷ no.WrongMemory ∷ no.WrongSamples ∷ no.RunFull ∷ no.NoCell ∷ no.BadCommand ∷ no.NoBin
     ∷ no.NothingHeld ∷ no.NotReady ∷ no.ShortBuffer ∷ no.Damaged ∷ no.NoLag
-    ∷ no.WrongLength ∷ no.WrongMark ∷ no.WrongSum ∷ no.BadField ∷ no.BadRecord
+    ∷ no.WrongLength ∷ no.WrongMark ∷ no.WrongSum ∷ no.BadField ∷ no.BadRecord ∷ no.WrongBias
     ∷ []
 
 -- the six losses, and the place of a loss in a cell's list by its number
@@ -144,9 +148,9 @@ pub record Edges : Type 0 where
   -- "4: t is 2,147,483,648"
   pub last-tick : firstOf (R.callTests workedShape (beforeTick 2147483647) (tick fourBytes)) ≡ Accepted
   pub run-full : firstOf (R.callTests workedShape (beforeTick 2147483648) (tick fourBytes)) ≡ Refused no.RunFull
-  -- "Who may be told no": 1 to 17
+  -- "Who may be told no": 1 to 17, and 18 of request 2026-04
   pub refusal-numbers : map refusalNumber allRefusals
-      ≡ 1 ∷ 2 ∷ 3 ∷ 4 ∷ 5 ∷ 6 ∷ 7 ∷ 8 ∷ 9 ∷ 10 ∷ 11 ∷ 12 ∷ 13 ∷ 14 ∷ 15 ∷ 16 ∷ 17 ∷ []
+      ≡ 1 ∷ 2 ∷ 3 ∷ 4 ∷ 5 ∷ 6 ∷ 7 ∷ 8 ∷ 9 ∷ 10 ∷ 11 ∷ 12 ∷ 13 ∷ 14 ∷ 15 ∷ 16 ∷ 17 ∷ 18 ∷ []
   -- "Where several apply, the order stands after each group."
   pub first-applies : firstOf (test false no.NoCell ∷ test false no.BadCommand ∷ []) ≡ Refused no.NoCell
   -- "1 ordered, 2 overrun, 3 full, 4 replaced, 5 wide, 6 holdoff"

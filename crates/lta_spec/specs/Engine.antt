@@ -11,7 +11,7 @@ use Rattle.lta_spec.specs.Shape.{openLimit, binLimit}
 use Rattle.lta_spec.specs.Size.{depth}
 use Rattle.lta_spec.specs.Place.{Label, Stamped, Bin, Cell, Result, free, filling, ready, ordered, overrun, full}
 use Rattle.lta_spec.specs.Place.{replaced, tooWide, holdoff, lossCount}
-use Rattle.lta_spec.specs.Call.{save, add, last, discard, idle, binIndex}
+use Rattle.lta_spec.specs.Call.{save, add, last, speed, discard, idle, binIndex}
 use Rattle.lta_spec.specs.Row.{ticksOf, emptyRow, tickRow, entryWord, fromWord}
 
 -- a row of words
@@ -60,9 +60,13 @@ unfoldable pub offsetAfter : (blocks command : ℕ) → Counter → ℕ
 offsetAfter blocks command k =
     cond (resets command (k .lastCode)) 0 (cond (ltb (suc (k .offset)) blocks) (suc (k .offset)) 0)
 
+-- the command that is kept as the last one: 001 for 011
+unfoldable pub keptAs : (command : ℕ) → ℕ
+keptAs command = cond (eqb command speed) add command
+
 unfoldable pub counted : (blocks command : ℕ) → Counter → Counter
 counted blocks command k =
-    cond (eqb command idle) k (record { offset = offsetAfter blocks command k; lastCode = suc command })
+    cond (eqb command idle) k (record { offset = offsetAfter blocks command k; lastCode = suc (keptAs command) })
 
 -- the label of a dump: the data bins of a phase stand side by side, one for each block
 abbrev pub dumpLabel : (blocks command bank phase offset : ℕ) → Label
@@ -133,6 +137,10 @@ module _ (n : ℕ) where
 
   unfoldable pub dumpCell : Label → (t : ℕ) → Cell Row → Result Row
   dumpCell l t c = dumpBy (eqb (l .command) idle) (eqb (l .command) discard) (eqb (c .held .occupied) 1) l t c
+
+  -- A speed dump: Open is cleared and stamped t, and nothing else moves.
+  unfoldable pub sendOpen : (t : ℕ) → Cell Row → Cell Row
+  sendOpen t c = record { opened = stamped (emptyRow n) t; held = c .held; bins = c .bins; losses = c .losses }
 
   -- Integrate. Held's flag and row are cleared, its label and stamp stay; bin k and the losses become b and ls.
   unfoldable pub release : (k : ℕ) → Bin Row → List Row → Cell Row → Cell Row

@@ -30,7 +30,7 @@ inTurn f (l ∷ ls) (t ∷ ts) = f l t ++ inTurn f ls ts
 -- of a tick on the run what its bytes give, of any other call `none`
 abbrev pub ofTick : {A : Type 0} → (none : A) → (List ℕ → A) → Listed → A
 ofTick none f (onRun (tick samples)) = f samples
-ofTick none f (onRun (dump d command bank phase)) = none
+ofTick none f (onRun (dump d command bank phase out)) = none
 ofTick none f (onRun (integrate d)) = none
 ofTick none f (onRun (emit d bank bin out)) = none
 ofTick none f (onRun (reading d lag loss)) = none
@@ -48,7 +48,7 @@ wellFormed sh l = ofTick 0 (λ samples. cond (eqb (length samples) (2 * sh .cell
 
 -- an accepted dump of cell c but 111: its answer
 abbrev pub dumpTold : (c : ℕ) → Listed → Returned → List ℕ
-dumpTold c (onRun (dump d command bank phase)) t =
+dumpTold c (onRun (dump d command bank phase out)) t =
     cond (eqb d c && not (eqb command idle)) (numberIn (t .answer)) []
 dumpTold c (onRun (tick samples)) t = []
 dumpTold c (onRun (integrate d)) t = []

@@ -1,7 +1,7 @@
 -- Document 01, "The frame": its words and bytes, its fields and their rules. The memo's LTA dump data frame, figure
--- 4-36.
+-- 4-36. Request 2026-04 adds its second kind, the memo's speed dump frame, figure 4-37.
 use Prim.Native.Nat.{ℕ, _+_, _*_, _/_, _%_}
-use mathlib.Core.Bool.{Bool, _&&_}
+use mathlib.Core.Bool.{Bool, cond, true, _&&_, _||_}
 use mathlib.Core.List.{List, [], _∷_, _++_, map}
 use lib.Dec.{leb, eqb}
 use lib.IntN.{ℤ, natAbs}
@@ -19,17 +19,25 @@ mark = 76 ∷ 84 ∷ []
 abbrev pub accumulated : ℕ
 accumulated = 2
 
--- how many header words a frame of a kind has
-abbrev pub headWords : (kind : ℕ) → ℕ
-headWords kind = 7
+-- the kind of a speed frame: "W0 bits 0-2 are 3"
+abbrev pub speedFrame : ℕ
+speedFrame = 3
 
--- mark, header words, N pairs, last word: "Length 34 + 8N bytes"
+-- how many header words a frame of a kind has: W0 to W6, and DATA_BIAS behind them in a speed frame
+abbrev pub headWords : (kind : ℕ) → ℕ
+headWords kind = cond (eqb kind speedFrame) 8 7
+
+-- mark, header words, N pairs, last word: "Length 34 + 8N bytes", and of a speed frame "38 + 8N"
 abbrev pub frameLength : (kind n : ℕ) → ℕ
 frameLength kind n = 2 + 4 * headWords kind + 8 * n + 4
 
 -- where the lag pairs of a frame start, in bytes
 abbrev pub lagsAt : (kind : ℕ) → ℕ
 lagsAt kind = 2 + 4 * headWords kind
+
+-- the kind that has frames of so many bytes, where one has
+unfoldable pub lengthKind : (n len : ℕ) → ℕ
+lengthKind n len = cond (eqb len (frameLength speedFrame n)) speedFrame accumulated
 
 -- "sum of all words before it, wrapping at 32 bits"
 abbrev pub checksum : List ℕ → ℕ
@@ -62,9 +70,16 @@ w0 f = f .kind + 2048 * f .cell
 abbrev pub w1 : Fields → ℕ
 w1 f = 256 * f .block + 65536 * f .bin + 2147483648 * f .bank
 
+-- "a word DATA_BIAS, equal to 98 × ticks, stands between W6 and the lags"
+abbrev pub biasWords : (kind ticks : ℕ) → List ℕ
+biasWords kind ticks = cond (eqb kind speedFrame) (peak * ticks ∷ []) []
+
 -- "W2 ticks; W3 centre count; W4 edge count", W5 the stamp's second, W6 its ticks within the second
+abbrev pub firstWords : Fields → List ℕ
+firstWords f = w0 f ∷ w1 f ∷ f .ticks ∷ f .centre ∷ f .edge ∷ f .second ∷ f .offset ∷ []
+
 unfoldable pub header : Fields → List ℕ
-header f = w0 f ∷ w1 f ∷ f .ticks ∷ f .centre ∷ f .edge ∷ f .second ∷ f .offset ∷ []
+header f = firstWords f ++ biasWords (f .kind) (f .ticks)
 
 -- the fields of header words
 unfoldable pub fieldsOf : (body : List ℕ) → Fields
@@ -86,12 +101,16 @@ fieldsOf ws =
 unfoldable pub fixedOk : (body : List ℕ) → Bool
 fixedOk ws = eqb (getD ws 0 0) (w0 (fieldsOf ws)) && eqb (getD ws 1 0) (w1 (fieldsOf ws))
 
+-- "The writer takes the kind too, 2 or 3, else 16"
+abbrev pub kindOk : (kind : ℕ) → Bool
+kindOk kind = eqb kind accumulated || eqb kind speedFrame
+
 -- the rules of 16 on fields, for reader and writer: "data bin above 999, ticks above 16,777,215, a count above ticks,
 -- W6 above 255,999,999", "a field too wide for its bits"
 unfoldable pub fieldsOk : Fields → Bool
 fieldsOk f =
     all
-    (eqb (f .kind) accumulated
+    (kindOk (f .kind)
     ∷ leb (f .cell) 15
     ∷ leb (f .block) 255
     ∷ leb (f .bin) 999
@@ -106,6 +125,10 @@ fieldsOk f =
 -- a number is no further from 0 than a limit
 abbrev pub within : (limit : ℕ) → ℤ → Bool
 within limit z = leb (natAbs z) limit
+
+-- 18: "when a speed frame's DATA_BIAS differs from 98 × ticks"
+unfoldable pub biasOk : (kind : ℕ) (body : List ℕ) → Bool
+biasOk kind ws = cond (eqb kind speedFrame) (eqb (getD ws 7 0) (peak * getD ws 2 0)) true
 
 -- "a lag beyond 98 × ticks"
 abbrev pub lagsOk : Fields → List ℤ → Bool

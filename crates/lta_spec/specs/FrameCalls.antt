@@ -1,5 +1,5 @@
--- The calls on frames: reader, lag part, writer, normalised lag. Refusals "1 for N, then 13 .., 14 .., 15 .., 16 ..
--- Normalising: 12 last. Writing fields: 1, 16, 10."
+-- The calls on frames, of both kinds: reader, lag part, writer, normalised lag. Refusals "1 for N, then 13 .., 14 ..,
+-- 15 .., 16 .. Normalising: 12 last. Writing fields: 1, 16, 10." By request 2026-04, 18 "tested after 16".
 use Prim.Native.Nat.{ℕ, _+_, _*_}
 use mathlib.Core.Bool.{Bool, cond, _&&_}
 use mathlib.Core.List.{List, [], _∷_, _++_}
@@ -15,10 +15,10 @@ use Rattle.lta_spec.specs.Shape.{lagCountOk}
 use Rattle.lta_spec.specs.Bytes.{signed}
 use Rattle.lta_spec.specs.Frame.{
   mark,
-  accumulated,
   headWords,
   frameLength,
   lagsAt,
+  lengthKind,
   checksum,
   frameOf,
   bodyOf,
@@ -28,11 +28,13 @@ use Rattle.lta_spec.specs.Frame.{
   fieldsOf,
   fixedOk,
   fieldsOk,
+  biasOk,
   lagsOk,
 }
 use Rattle.lta_spec.specs.declared.Fields.{Fields}
+use Rattle.lta_spec.specs.declared.Span.{Span}
 use Rattle.lta_spec.specs.declared.Refusal.the-variants.{BadShape, ShortBuffer, NoLag}
-use Rattle.lta_spec.specs.declared.Refusal.the-variants.{WrongLength, WrongMark, WrongSum, BadField}
+use Rattle.lta_spec.specs.declared.Refusal.the-variants.{WrongLength, WrongMark, WrongSum, BadField, WrongBias}
 use Rattle.lta_spec.specs.declared.Verdict.{Verdict}
 
 -- 14: the bytes start with the mark
@@ -43,19 +45,32 @@ marked s = eqb (getD s 0 0) (getD mark 0 0) && eqb (getD s 1 0) (getD mark 1 0)
 unfoldable pub summed : (k : ℕ) (body : List ℕ) → Bool
 summed k ws = eqb (getD ws k 0) (checksum (take k ws))
 
--- 16: the rules on the words behind the mark
-unfoldable pub ruled : (n : ℕ) (body : List ℕ) → Bool
-ruled n ws = fixedOk ws && (fieldsOk (fieldsOf ws) && lagsOk (fieldsOf ws) (lagNumbers accumulated n ws))
+-- 16: the rules on the words behind the mark, and "when W0 names the kind of the other length"
+unfoldable pub ruled : (kind n : ℕ) (body : List ℕ) → Bool
+ruled kind n ws =
+    fixedOk ws
+    && (eqb ((fieldsOf ws) .kind) kind
+    && (fieldsOk (fieldsOf ws) && lagsOk (fieldsOf ws) (lagNumbers kind n ws)))
 
--- what the frame sender may be told, in order
+-- the kind by the bytes' length
+abbrev pub kindBy : (n : ℕ) (s : List ℕ) → ℕ
+kindBy n s = lengthKind n (length s)
+
+-- 15, 16 and 18, of the words behind the mark
+abbrev pub bodyTests : (kind n : ℕ) (body : List ℕ) → List Test
+bodyTests kind n ws =
+    test (summed (headWords kind + 2 * n) ws) WrongSum
+    ∷ test (ruled kind n ws) BadField
+    ∷ test (biasOk kind ws) WrongBias
+    ∷ []
+
+-- what the frame sender may be told, in order; "13 when the length is neither kind's"
 abbrev pub readTests : (n : ℕ) (s : List ℕ) → List Test
 readTests n s =
     test (lagCountOk n) BadShape
-    ∷ test (eqb (length s) (frameLength accumulated n)) WrongLength
+    ∷ test (eqb (length s) (frameLength (kindBy n s) n)) WrongLength
     ∷ test (marked s) WrongMark
-    ∷ test (summed (headWords accumulated + 2 * n) (bodyOf s)) WrongSum
-    ∷ test (ruled n (bodyOf s)) BadField
-    ∷ []
+    ∷ bodyTests (kindBy n s) n (bodyOf s)
 
 unfoldable pub readVerdict : (n : ℕ) (s : List ℕ) → Verdict
 readVerdict n s = firstOf (readTests n s)
@@ -64,9 +79,15 @@ readVerdict n s = firstOf (readTests n s)
 abbrev pub readAnswer : (n : ℕ) (s : List ℕ) → Answer
 readAnswer n s = decided (readVerdict n s) refusal (fields (fieldsOf (bodyOf s)))
 
--- "the part of the caller's bytes that holds the lag pairs", "the empty part where the reader refuses"
+-- "the part of the caller's bytes that holds the lag pairs", "the empty part where the reader refuses": where it is,
+-- and its bytes
+abbrev pub lagSpan : (n : ℕ) (s : List ℕ) → Span
+lagSpan n s =
+    decided (readVerdict n s) (λ r. record { at = 0; length = 0 })
+    (record { at = lagsAt (kindBy n s); length = 8 * n })
+
 abbrev pub lagPart : (n : ℕ) (s : List ℕ) → List ℕ
-lagPart n s = decided (readVerdict n s) (λ r. []) (part (lagsAt accumulated) (8 * n) s)
+lagPart n s = part ((lagSpan n s) .at) ((lagSpan n s) .length) s
 
 -- what the writer of fields and lag numbers may be told, in order; room is the length of the buffer
 unfoldable pub writeVerdict : (n : ℕ) → Fields → List ℤ → (room : ℕ) → Verdict
@@ -92,18 +113,18 @@ abbrev pub quotient : ℤ → ℕ → Float
 quotient z count = div binary64 (ofInt binary64 z) (ofInt binary64 (pos count))
 
 -- lag k of the words behind the mark, "I and Q each divided by the centre count"; "if that count is 0", no data
-abbrev pub normalOf : (body : List ℕ) (k : ℕ) → Answer
-normalOf ws k =
+abbrev pub normalOf : (kind : ℕ) (body : List ℕ) (k : ℕ) → Answer
+normalOf kind ws k =
     cond (eqb (getD ws 3 0) 0)
     noData
     (normal
     (record {
-      re = quotient (signed (getD ws (headWords accumulated + 2 * k) 0)) (getD ws 3 0);
-      im = quotient (signed (getD ws (headWords accumulated + 2 * k + 1) 0)) (getD ws 3 0);
+      re = quotient (signed (getD ws (headWords kind + 2 * k) 0)) (getD ws 3 0);
+      im = quotient (signed (getD ws (headWords kind + 2 * k + 1) 0)) (getD ws 3 0);
     }))
 
 unfoldable pub normalVerdict : (n : ℕ) (s : List ℕ) (k : ℕ) → Verdict
 normalVerdict n s k = firstOf (readTests n s ++ test (ltb k n) NoLag ∷ [])
 
 abbrev pub normalAnswer : (n : ℕ) (s : List ℕ) (k : ℕ) → Answer
-normalAnswer n s k = decided (normalVerdict n s k) refusal (normalOf (bodyOf s) k)
+normalAnswer n s k = decided (normalVerdict n s k) refusal (normalOf (kindBy n s) (bodyOf s) k)

@@ -29,4 +29,5 @@ pub mod LossPages
 pub mod BlockRows
 pub mod WorkedRun
 pub mod Edges
+pub mod SpeedRows
 pub mod AnswerOrder

@@ -7,7 +7,7 @@ use lib.ListN.{length, getD, set, replicate}
 use Rattle.lta_spec.specs.Shape.{openLimit, binLimit}
 use Rattle.lta_spec.specs.Place.{Label, Stamped, Bin, Cell, Result, free, filling, ready}
 use Rattle.lta_spec.specs.Place.{ordered, overrun, full, replaced, tooWide, holdoff, lossCount}
-use Rattle.lta_spec.specs.Call.{save, add, last, discard, idle, binIndex}
+use Rattle.lta_spec.specs.Call.{save, add, last, speed, discard, idle, binIndex}
 
 -- a set of tick numbers
 abbrev pub Ticks : Type 0
@@ -65,8 +65,14 @@ dumpBy false true o l t c = record { answer = 1; cell = loseOpen ordered t c }
 dumpBy false false true l t c = record { answer = 2; cell = loseOpen overrun t c }
 dumpBy false false false l t c = record { answer = 0; cell = holdOpen l t c }
 
+-- a dump with a command other than 011
 unfoldable pub dumpCell : Label → (t : ℕ) → Cell Ticks → Result Ticks
 dumpCell l t c = dumpBy (eqb (l .command) idle) (eqb (l .command) discard) (eqb (c .held .occupied) 1) l t c
+
+-- Request 2026-04, 011: it "empties Open, leaves Held as it is, and ignores the accumulator"; "in the plain machine
+-- Open becomes its set", that of a frame.
+unfoldable pub sendOpen : (t : ℕ) → Cell Ticks → Cell Ticks
+sendOpen t c = record { opened = stamped [] t; held = c .held; bins = c .bins; losses = c .losses }
 
 -- Request 2026-01, the recirculation block counter: "Each cell keeps a current block." The last command is that of the
 -- cell's last accepted dump but 111, whatever became of Open.
@@ -83,6 +89,10 @@ pub record Counter : Type 0 where
 unfoldable pub returns : (command : ℕ) → LastCommand → Bool
 returns command none = true
 returns command (was before) = eqb command discard || (eqb command last && (eqb before save || eqb before add))
+
+-- request 2026-04, 011: "For the block counter it counts as a 001."
+unfoldable pub countsAs : (command : ℕ) → ℕ
+countsAs command = cond (eqb command speed) add command
 
 -- start is S, blocks is M
 module _ (start blocks : ℕ) where

@@ -1,7 +1,7 @@
 -- Document 01, "The plain machine", a run: its cells, the refusals, the calls. It is fed the arguments of setup and
 -- of each call, of work memory the length alone.
 use Prim.Native.Nat.{ℕ, suc, _+_, _*_, _-_}
-use mathlib.Core.Bool.{cond, not, _&&_}
+use mathlib.Core.Bool.{Bool, true, false, cond, not, _&&_}
 use mathlib.Core.List.{List, [], _∷_, _++_, map}
 use lib.Dec.{leb, ltb, eqb}
 use lib.ListN.{length, getD, set, drop, replicate}
@@ -9,15 +9,15 @@ use Rattle.lta_spec.specs.Words.{splice, joined}
 use Rattle.lta_spec.specs.Refusals.{Test, test, firstOf, decided}
 use Rattle.lta_spec.specs.Shape.{runLimit}
 use Rattle.lta_spec.specs.Size.{hostTests}
-use Rattle.lta_spec.specs.Place.{Cell, ready, lossCount}
+use Rattle.lta_spec.specs.Place.{Label, Cell, ready, lossCount}
 use Rattle.lta_spec.specs.Page.{countsSum, pageOf, pageLength}
-use Rattle.lta_spec.specs.Frame.{accumulated, frameLength}
-use Rattle.lta_spec.specs.Call.{Call, lentTo, commandOk, phaseOk, bankOk, binIndex}
+use Rattle.lta_spec.specs.Frame.{accumulated, speedFrame, frameLength}
+use Rattle.lta_spec.specs.Call.{Call, lentTo, speed, commandOk, dumpFits, phaseOk, bankOk, binIndex}
 use Rattle.lta_spec.specs.Call.Call.{tick, dump, integrate, emit, reading, forecast, page}
 use Rattle.lta_spec.specs.Answer.{Answer, refusal}
 use Rattle.lta_spec.specs.Answer.Answer.{number, entry}
 use Rattle.lta_spec.specs.Machine.{Ticks, hasRoom, tickCell, dumpCell, integrateCell, binAt, emptyBin, freshCell}
-use Rattle.lta_spec.specs.Machine.{forecastOf, Counter, counted, dumpLabel, freshCounter}
+use Rattle.lta_spec.specs.Machine.{forecastOf, sendOpen, Counter, countsAs, counted, dumpLabel, freshCounter}
 use Rattle.lta_spec.specs.Numbers.{Emitted, setSums, setCounts, setFrame}
 use Rattle.lta_spec.specs.declared.Shape.{Shape}
 use Rattle.lta_spec.specs.declared.Counts.{Counts}
@@ -57,10 +57,11 @@ module _ (sh : Shape) (r : Run) where
       test (eqb (length samples) (2 * sh .cells)) WrongSamples
       ∷ test (not (eqb (r .t) runLimit)) RunFull
       ∷ []
-  callTests (dump cell command bank phase) =
+  callTests (dump cell command bank phase out) =
       test (ltb cell (sh .cells)) NoCell
       ∷ test (commandOk command) BadCommand
       ∷ test (bankOk bank && phaseOk sh phase) NoBin
+      ∷ test (dumpFits (sh .lags) command (length out)) ShortBuffer
       ∷ []
   callTests (integrate cell) =
       test (ltb cell (sh .cells)) NoCell
@@ -123,27 +124,44 @@ withCell sh c places r = withDump sh c places ((unitAt sh c r) .counter) r
 unfoldable pub emitted : Shape → (c bank bin : ℕ) → Run → Emitted
 emitted sh c bank bin r =
     record {
+      kind = accumulated;
       bank = bank;
       bin = bin;
       content = (binAt (binIndex (sh .bins) bank bin) ((unitAt sh c r) .cell)) .content;
     }
 
--- the run with that bin emptied and its set among the frames: "its set becomes that of a frame"
-unfoldable pub withFrame : Shape → (c bank bin : ℕ) → Run → Run
-withFrame sh c bank bin r =
+-- what a speed dump of cell c sends: "W1 carries the bin of the dump's label; W5 and W6 use the integration's stamp"
+unfoldable pub speedSent : Shape → (c : ℕ) → Label → Run → Emitted
+speedSent sh c l r =
+    record { kind = speedFrame; bank = l .bank; bin = l .bin; content = (unitAt sh c r) .cell .opened }
+
+-- the run with the places and the block counter of cell c as a call leaves them that sends a frame, and its set among
+-- the frames: "its set becomes that of a frame"
+unfoldable pub withFrame : Shape → (c : ℕ) → Cell Ticks → Counter → Emitted → Run → Run
+withFrame sh c places k e r =
     let u = unitAt sh c r in
     record {
       t = r .t;
-      units =
-          set (r .units) c
-          (record {
-            cell = emptyBin (binIndex (sh .bins) bank bin) (u .cell);
-            counter = u .counter;
-            frames = emitted sh c bank bin r ∷ u .frames;
-            xs = u .xs;
-            ys = u .ys;
-          });
+      units = set (r .units) c (record { cell = places; counter = k; frames = e ∷ u .frames; xs = u .xs; ys = u .ys });
     }
+
+-- a call that sends a frame of cell c: its bytes into the front of the lent buffer, its length as the answer
+unfoldable pub sends : Shape → (c : ℕ) → Cell Ticks → Counter → Emitted → (out : List ℕ) → Run → Step
+sends sh c places k e out r =
+    let u = unitAt sh c r in
+    record {
+      answer = number (frameLength (e .kind) (sh .lags));
+      out = splice out 0 (setFrame sh c (u .xs) (u .ys) e);
+      run = withFrame sh c places k e r;
+    }
+
+-- a dump of cell c by its label, whose block the counter k has: 011, or another
+unfoldable pub dumpsBy : (speeds : Bool) → Shape → (c : ℕ) → Label → Counter → (out : List ℕ) → Run → Step
+dumpsBy true sh c l k out r =
+    sends sh c (sendOpen (r .t) ((unitAt sh c r) .cell)) k (speedSent sh c l r) out r
+dumpsBy false sh c l k out r =
+    let x = dumpCell l (r .t) ((unitAt sh c r) .cell) in
+    record { answer = number (x .answer); out = out; run = withDump sh c (x .cell) k r }
 
 -- the numbers of the losses of a cell, and of all ticks in them
 abbrev pub lossCounts : (n : ℕ) → Unit → List Counts
@@ -164,21 +182,15 @@ accepted sh (tick samples) r =
       out = [];
       run = record { t = suc (r .t); units = tickUnits (r .t) samples (r .units) };
     }
-accepted sh (dump c command bank phase) r =
-    let u = unitAt sh c r in
-    let k = counted (sh .start) (sh .blocks) command (u .counter) in
-    let x = dumpCell (dumpLabel (sh .start) (sh .blocks) command bank phase (k .block)) (r .t) (u .cell) in
-    record { answer = number (x .answer); out = []; run = withDump sh c (x .cell) k r }
+accepted sh (dump c command bank phase out) r =
+    let k = counted (sh .start) (sh .blocks) (countsAs command) ((unitAt sh c r) .counter) in
+    dumpsBy (eqb command speed) sh c (dumpLabel (sh .start) (sh .blocks) command bank phase (k .block)) k out r
 accepted sh (integrate c) r =
     let x = integrateCell (sh .bins) ((unitAt sh c r) .cell) in
     record { answer = number (x .answer); out = []; run = withCell sh c (x .cell) r }
 accepted sh (emit c bank bin out) r =
     let u = unitAt sh c r in
-    record {
-      answer = number (frameLength accumulated (sh .lags));
-      out = splice out 0 (setFrame sh c (u .xs) (u .ys) (emitted sh c bank bin r));
-      run = withFrame sh c bank bin r;
-    }
+    sends sh c (emptyBin (binIndex (sh .bins) bank bin) (u .cell)) (u .counter) (emitted sh c bank bin r) out r
 accepted sh (reading c lag loss) r =
     let u = unitAt sh c r in
     record {

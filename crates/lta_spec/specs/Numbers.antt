@@ -11,6 +11,7 @@ use Rattle.lta_spec.specs.Frame.{frameOf, lagWords, header}
 use Rattle.lta_spec.specs.Call.{emittedFields}
 use Rattle.lta_spec.specs.Machine.{Ticks}
 use Rattle.lta_spec.specs.declared.Shape.{Shape}
+use Rattle.lta_spec.specs.declared.Fields.{Fields}
 use Rattle.lta_spec.specs.declared.Sums.{Sums}
 use Rattle.lta_spec.specs.declared.Counts.{Counts}
 
@@ -58,18 +59,22 @@ module _ (n : ℕ) (xs ys : List ℕ) (s : Ticks) where
   setCounts =
       record { ticks = length s; edge = validCount edgeLag; centre = validCount (centreLag n) }
 
--- an emitted frame: the bin that it came from, its set and stamp
+-- an emitted frame: its kind, the bin that it came from or that a speed dump's label names, its set and stamp
 pub record Emitted : Type 0 where
+  pub kind : ℕ
   pub bank : ℕ
   pub bin : ℕ
   pub content : Stamped Ticks
 
--- the bytes of the frame of a set: "The machine's frames .. carry its sets' numbers."
-unfoldable pub setFrame : Shape → (cell : ℕ) → (xs ys : List ℕ) → Emitted → List ℕ
-setFrame sh cell xs ys e =
+-- the fields and the bytes of the frame of a set: "The machine's frames .. carry its sets' numbers."
+abbrev pub setFields : Shape → (cell : ℕ) → (xs ys : List ℕ) → Emitted → Fields
+setFields sh cell xs ys e =
     let n = sh .lags in
     let s = e .content .members in
-    let edge = validCount n xs ys s edgeLag in
-    let centre = validCount n xs ys s (centreLag n) in
-    frameOf (header (emittedFields sh cell (e .bank) (e .bin) (e .content .stamp) (length s) edge centre))
-    (lagWords (lagSums n xs ys s n 0))
+    emittedFields sh (e .kind) cell (e .bank) (e .bin) (e .content .stamp) (length s) (validCount n xs ys s edgeLag)
+    (validCount n xs ys s (centreLag n))
+
+unfoldable pub setFrame : Shape → (cell : ℕ) → (xs ys : List ℕ) → Emitted → List ℕ
+setFrame sh cell xs ys e =
+    frameOf (header (setFields sh cell xs ys e))
+    (lagWords (lagSums (sh .lags) xs ys (e .content .members) (sh .lags) 0))

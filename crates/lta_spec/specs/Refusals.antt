@@ -28,6 +28,7 @@ refusalNumber no.WrongMark = 14
 refusalNumber no.WrongSum = 15
 refusalNumber no.BadField = 16
 refusalNumber no.BadRecord = 17
+refusalNumber no.WrongBias = 18
 
 -- the number of a loss
 abbrev pub lossNumber : Loss → ℕ

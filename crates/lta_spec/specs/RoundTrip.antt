@@ -1,20 +1,21 @@
--- The two round trips of a frame, for every N, and the reading of an emitted frame, as one statement about the calls.
--- proofs/RoundTrips.antt and proofs/EmittedBack.antt prove it.
+-- The two round trips of a frame of either kind, for every N, that no bytes are accepted as both kinds, and the reading
+-- of a frame that a run sent, as one statement about the calls. proofs/RoundTrips.antt and proofs/EmittedBack.antt
+-- prove it.
 use Prim.Native.Nat.{ℕ, _≤_, _<_}
 use mathlib.Core.Path.{_≡_}
-use mathlib.Core.List.{List, map}
+use mathlib.Core.List.{List, [], _++_, map}
 use lib.IntN.{ℤ}
 use lib.ListN.{length, getD, take, drop}
 use Rattle.lta_spec.specs.Words.{splice}
 use Rattle.lta_spec.specs.Bytes.{wordsOf, signed}
 use Rattle.lta_spec.specs.Answer.Answer.{fields}
 use Rattle.lta_spec.specs.Place.{Stamped}
-use Rattle.lta_spec.specs.Frame.{accumulated, frameLength, bodyOf, fieldsOf, lagNumbers}
+use Rattle.lta_spec.specs.Frame.{accumulated, speedFrame, frameLength, bodyOf, fieldsOf, lagNumbers}
 use Rattle.lta_spec.specs.FrameCalls.{readVerdict, readAnswer, lagPart, writeVerdict, writeLeaves}
-use Rattle.lta_spec.specs.Call.{binIndex, emittedFields}
-use Rattle.lta_spec.specs.Call.Call.{emit}
+use Rattle.lta_spec.specs.Call.{speed, binIndex, emittedFields}
+use Rattle.lta_spec.specs.Call.Call.{dump, emit}
 use Rattle.lta_spec.specs.Row.{ticksOf, edgeOf, centreOf, rowLags}
-use Rattle.lta_spec.specs.Engine.{Row, binAt}
+use Rattle.lta_spec.specs.Engine.{Row, binAt, counted, dumpLabel}
 use Rattle.lta_spec.specs.Memory.{runL}
 use Rattle.lta_spec.specs.Step as S
 use Rattle.lta_spec.specs.declared.Fields.{Fields}
@@ -39,11 +40,26 @@ abbrev pub emittedTo : Shape → (c bank bin : ℕ) (mem out : List ℕ) → Lis
 emittedTo sh c bank bin mem out =
     take (frameLength accumulated (sh .lags)) ((S.step sh (emit c bank bin out) mem) .out)
 
+-- the row and stamp of Open of cell c, and the data bin of the label that a speed dump of it makes
+abbrev pub storedOpen : Shape → (c : ℕ) (mem : List ℕ) → Stamped Row
+storedOpen sh c mem = (S.cellAt sh c ((runL sh) .get mem)) .opened
+
+abbrev pub speedBin : Shape → (c bank phase : ℕ) (mem : List ℕ) → ℕ
+speedBin sh c bank phase mem =
+    let k = counted (sh .blocks) speed ((S.unitAt sh c ((runL sh) .get mem)) .counter) in
+    (dumpLabel (sh .blocks) speed bank phase (k .offset)) .bin
+
+-- the bytes that a speed dump leaves at the start of its buffer
+abbrev pub speedTo : Shape → (c bank phase : ℕ) (mem out : List ℕ) → List ℕ
+speedTo sh c bank phase mem out =
+    take (frameLength speedFrame (sh .lags)) ((S.step sh (dump c speed bank phase out) mem) .out)
+
 -- a frame's bytes, read back, are a row and a stamp in numbers
-pub record RowBack (sh : Shape) (c bank bin : ℕ) (b : Stamped Row) (frame : List ℕ) : Type 0 where
+pub record RowBack (sh : Shape) (kind c bank bin : ℕ) (b : Stamped Row) (frame : List ℕ) : Type 0 where
   pub returned : readAnswer (sh .lags) frame
       ≡ fields
-      (emittedFields sh c bank bin (b .stamp) (ticksOf (b .members)) (edgeOf (b .members)) (centreOf (b .members)))
+      (emittedFields sh kind c bank bin (b .stamp) (ticksOf (b .members)) (edgeOf (b .members))
+      (centreOf (b .members)))
   pub lags : lagsRead (sh .lags) frame ≡ rowLags (ticksOf (b .members)) (drop 3 (b .members))
 
 pub record RoundTrip : Type 0 where
@@ -55,8 +71,16 @@ pub record RoundTrip : Type 0 where
   -- an accepted frame, written again from what was read, gives its bytes
   pub bytes-back : (n : ℕ) (s out : List ℕ) → ((i : ℕ) → getD s i 0 < 256) → readVerdict n s ≡ Accepted
       → length s ≤ length out
-      → writeLeaves n (fieldsOf (bodyOf s)) (lagNumbers accumulated n (bodyOf s)) out ≡ splice out 0 s
+      → writeLeaves n (fieldsOf (bodyOf s)) (lagNumbers ((fieldsOf (bodyOf s)) .kind) n (bodyOf s)) out ≡ splice out 0 s
+  -- no bytes are accepted as both kinds: an accepted frame with bytes behind it is no accepted frame
+  pub one-kind : (n : ℕ) (s behind : List ℕ) → readVerdict n s ≡ Accepted → readVerdict n (s ++ behind) ≡ Accepted
+      → behind ≡ []
   -- an emission that is accepted, whatever work memory holds: what is read back is what stood in the bin
   pub emitted-back : (sh : Shape) (c bank bin : ℕ) (mem out : List ℕ)
       → S.verdict sh mem (emit c bank bin out) ≡ Accepted
-      → RowBack sh c bank bin (storedBin sh c bank bin mem) (emittedTo sh c bank bin mem out)
+      → RowBack sh accumulated c bank bin (storedBin sh c bank bin mem) (emittedTo sh c bank bin mem out)
+  -- a speed dump that is accepted: what is read back is what stood in Open, under the dump's label
+  pub speed-back : (sh : Shape) (c bank phase : ℕ) (mem out : List ℕ)
+      → S.verdict sh mem (dump c speed bank phase out) ≡ Accepted
+      → RowBack sh speedFrame c bank (speedBin sh c bank phase mem) (storedOpen sh c mem)
+      (speedTo sh c bank phase mem out)

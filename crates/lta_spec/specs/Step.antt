@@ -1,7 +1,7 @@
 -- What a call makes of work memory: the refusals in their order, then what is done. What the contracts of the calls
 -- cite.
 use Prim.Native.Nat.{ℕ, suc, _+_, _*_, _-_}
-use mathlib.Core.Bool.{Bool, cond, not, _&&_}
+use mathlib.Core.Bool.{Bool, true, false, cond, not, _&&_}
 use mathlib.Core.List.{List, [], _∷_, _++_, map}
 use lib.Dec.{leb, ltb, eqb}
 use lib.ListN.{length, getD, set, drop}
@@ -9,13 +9,15 @@ use Rattle.lta_spec.specs.Words.{splice, joined, every}
 use Rattle.lta_spec.specs.Refusals.{Test, test, firstOf, decided}
 use Rattle.lta_spec.specs.Shape.{shapeOk, runLimit}
 use Rattle.lta_spec.specs.Size.{memoryWords, hostTests}
-use Rattle.lta_spec.specs.Place.{Stamped, Cell, ready, lossCount}
+use Rattle.lta_spec.specs.Place.{Label, Stamped, Cell, ready, lossCount}
 use Rattle.lta_spec.specs.Page.{countsSum, pageOf, pageLength}
-use Rattle.lta_spec.specs.Frame.{accumulated, frameLength, frameOf, lagWords, header}
+use Rattle.lta_spec.specs.Frame.{accumulated, speedFrame, frameLength, frameOf, lagWords, header}
 use Rattle.lta_spec.specs.Call.{
   Call,
   lentTo,
+  speed,
   commandOk,
+  dumpFits,
   phaseOk,
   bankOk,
   binIndex,
@@ -37,6 +39,7 @@ use Rattle.lta_spec.specs.Engine.{
   counted,
   dumpLabel,
   dumpCell,
+  sendOpen,
   integrateCell,
   emptyBin,
   freshUnit,
@@ -109,11 +112,12 @@ module _ (sh : Shape) where
       ∷ test (not (eqb (r .t) runLimit)) RunFull
       ∷ soundAt (unitsSound (r .t) (r .units)) r
       ∷ []
-  callTests (dump c command bank phase) r =
+  callTests (dump c command bank phase out) r =
       test (ltb c (sh .cells)) NoCell
       ∷ test (commandOk command) BadCommand
       ∷ test (bankOk bank && phaseOk sh phase) NoBin
       ∷ soundAt (dumpUnitSound (sh .lags) (sh .bins) (sh .blocks) (r .t) command (unitAt c r)) r
+      ∷ test (dumpFits (sh .lags) command (length out)) ShortBuffer
       ∷ []
   callTests (integrate c) r =
       test (ltb c (sh .cells)) NoCell
@@ -158,12 +162,30 @@ module _ (sh : Shape) where
   unfoldable pub withCell : (c : ℕ) → Cell Row → Run → Run
   withCell c places r = withDump c places ((unitAt c r) .counter) r
 
-  -- the bytes of the frame of a bin's row
-  unfoldable pub rowFrame : (cell bank bin : ℕ) → Stamped Row → List ℕ
-  rowFrame cell bank bin b =
+  -- the bytes of the frame of a row, a bin's or Open's
+  unfoldable pub rowFrame : (kind cell bank bin : ℕ) → Stamped Row → List ℕ
+  rowFrame kind cell bank bin b =
       let row = b .members in
-      frameOf (header (emittedFields sh cell bank bin (b .stamp) (ticksOf row) (edgeOf row) (centreOf row)))
+      frameOf (header (emittedFields sh kind cell bank bin (b .stamp) (ticksOf row) (edgeOf row) (centreOf row)))
       (lagWords (rowLags (ticksOf row) (drop 3 row)))
+
+  -- the frame of a row of cell c goes into the front of the lent buffer, and the cell's places and block counter change
+  unfoldable pub sends : (kind c bank bin : ℕ) → Stamped Row → Cell Row → Counter → (out : List ℕ) → Run → Done
+  sends kind c bank bin b places k out r =
+      record {
+        answer = number (frameLength kind (sh .lags));
+        out = splice out 0 (rowFrame kind c bank bin b);
+        run = withDump c places k r;
+      }
+
+  -- a dump by its label: 011 sends Open's row, any other command moves it
+  unfoldable pub dumpsBy : (speeds : Bool) (c : ℕ) → Label → Counter → (out : List ℕ) → Run → Done
+  dumpsBy true c l k out r =
+      let x = cellAt c r in
+      sends speedFrame c (l .bank) (l .bin) (x .opened) (sendOpen (sh .lags) (r .t) x) k out r
+  dumpsBy false c l k out r =
+      let x = dumpCell (sh .lags) l (r .t) (cellAt c r) in
+      record { answer = number (x .answer); out = out; run = withDump c (x .cell) k r }
 
   -- what an accepted call answers and leaves
   unfoldable pub accepted : Call → Run → Done
@@ -173,21 +195,17 @@ module _ (sh : Shape) where
         out = [];
         run = record { t = suc (r .t); units = tickUnits samples (r .units) };
       }
-  accepted (dump c command bank phase) r =
-      let u = unitAt c r in
-      let k = counted (sh .blocks) command (u .counter) in
-      let x = dumpCell (sh .lags) (dumpLabel (sh .blocks) command bank phase (k .offset)) (r .t) (u .cell) in
-      record { answer = number (x .answer); out = []; run = withDump c (x .cell) k r }
+  accepted (dump c command bank phase out) r =
+      let k = counted (sh .blocks) command ((unitAt c r) .counter) in
+      dumpsBy (eqb command speed) c (dumpLabel (sh .blocks) command bank phase (k .offset)) k out r
   accepted (integrate c) r =
       let x = integrateCell (sh .lags) (sh .bins) (cellAt c r) in
       record { answer = number (x .answer); out = []; run = withCell c (x .cell) r }
   accepted (emit c bank bin out) r =
       let k = binIndex (sh .bins) bank bin in
-      record {
-        answer = number (frameLength accumulated (sh .lags));
-        out = splice out 0 (rowFrame c bank bin ((binAt (sh .lags) k (cellAt c r)) .content));
-        run = withCell c (emptyBin (sh .lags) k (cellAt c r)) r;
-      }
+      let u = unitAt c r in
+      sends accumulated c bank bin ((binAt (sh .lags) k (u .cell)) .content) (emptyBin (sh .lags) k (u .cell))
+      (u .counter) out r
   accepted (reading c lag loss) r =
       record { answer = entry (rowSums lag (lossAt (sh .lags) (loss - 1) ((cellAt c r) .losses))); out = []; run = r }
   accepted (forecast c) r = record { answer = number (forecastOf (cellAt c r)); out = []; run = r }

@@ -104,44 +104,44 @@ lent = replicate 67 9
 abbrev pub workedRun : List CallLine
 workedRun =
     -- cell 1: its first dump uses block 20, Open is empty
-    line (dump 1 4 1 1) (number 1)
+    line (dump 1 4 1 1 []) (number 1)
     ∷ line (tick (0x0A ∷ 0x63 ∷ 0x36 ∷ 0x79 ∷ [])) (number 0)
     ∷ line (tick (0x96 ∷ 0xD4 ∷ 0x48 ∷ 0x64 ∷ [])) (number 0)
     ∷ line (tick (0xA2 ∷ 0x84 ∷ 0x69 ∷ 0x04 ∷ [])) (number 0)
     -- cell 0: 100, ticks 0 to 2 go to loss 1
-    ∷ line (dump 0 4 0 0) (number 1)
+    ∷ line (dump 0 4 0 0 []) (number 1)
     ∷ line (tick (0x85 ∷ 0xB6 ∷ 0x87 ∷ 0x68 ∷ [])) (number 0)
     ∷ line (tick (0x36 ∷ 0xC8 ∷ 0x0F ∷ 0xAF ∷ [])) (number 0)
     -- Open has two ticks in cell 0 and five in cell 1
     ∷ line (forecast 0) (number 524286)
     ∷ line (forecast 1) (number 524283)
     -- cell 0 holds ticks 3 and 4; cell 1 saves ticks 0 to 4 in bank 1, block 21, data bin 1 × 3 + (21 - 20)
-    ∷ line (dump 0 1 0 0) (number 0)
-    ∷ line (dump 1 0 1 1) (number 0)
+    ∷ line (dump 0 1 0 0 []) (number 0)
+    ∷ line (dump 1 0 1 1 []) (number 0)
     -- cell 1: two overruns without ticks move on to block 22, and back to 20
-    ∷ line (dump 1 1 1 1) (number 2)
-    ∷ line (dump 1 1 1 1) (number 2)
+    ∷ line (dump 1 1 1 1 []) (number 2)
+    ∷ line (dump 1 1 1 1 []) (number 2)
     ∷ line (integrate 1) (number 0)
     ∷ line (tick (0x26 ∷ 0xFB ∷ 0x5F ∷ 0x0B ∷ [])) (number 0)
     -- 111 does nothing: Open's stamp stays 5, and the block 20
-    ∷ line (dump 1 7 0 0) (number 7)
+    ∷ line (dump 1 7 0 0 []) (number 7)
     ∷ line (tick (0x48 ∷ 0xBD ∷ 0xC8 ∷ 0x4A ∷ [])) (number 0)
     -- cell 1, block 21: ticks 5 and 6 replace ticks 0 to 4, which go to loss 4; an overrun by 010 behind 000 returns to
     -- block 20
-    ∷ line (dump 1 0 1 1) (number 0)
-    ∷ line (dump 1 2 1 1) (number 2)
+    ∷ line (dump 1 0 1 1 []) (number 0)
+    ∷ line (dump 1 2 1 1 []) (number 2)
     ∷ line (integrate 1) (number 4)
     ∷ line (tick (0xDB ∷ 0x81 ∷ 0x14 ∷ 0x6F ∷ [])) (number 0)
     -- cell 0: Held is occupied, and ticks 5 to 7 go to loss 2; cell 1: 010 behind 010 moves on to block 21, tick 7
     -- joins, and the bin is Ready
-    ∷ line (dump 0 2 0 0) (number 2)
-    ∷ line (dump 1 2 1 1) (number 0)
-    ∷ line (dump 1 1 1 1) (number 2)
-    ∷ line (dump 1 0 1 1) (number 2)
+    ∷ line (dump 0 2 0 0 []) (number 2)
+    ∷ line (dump 1 2 1 1 []) (number 0)
+    ∷ line (dump 1 1 1 1 []) (number 2)
+    ∷ line (dump 1 0 1 1 []) (number 2)
     ∷ line (integrate 1) (number 0)
     ∷ line (tick (0x54 ∷ 0x6C ∷ 0x76 ∷ 0xD6 ∷ [])) (number 0)
     -- cell 1, block 21 again: tick 8 goes to loss 3
-    ∷ line (dump 1 1 1 1) (number 0)
+    ∷ line (dump 1 1 1 1 []) (number 0)
     ∷ line (integrate 1) (number 3)
     -- a reading has cell, lag and loss number
     ∷ line (reading 0 2 1) (sumsRead (pos 18) (minus 30) 3 1 2)

@@ -18,7 +18,7 @@ pub struct Shape {
     pub second: u64,
 }
 
-// Who may be told no: a name for each number of document 01, in the order 1 to 17.
+// Who may be told no: a name for each number of documents 01 and 02, in the order 1 to 18.
 pub enum Refusal {
     BadShape,
     WrongMemory,
@@ -37,6 +37,7 @@ pub enum Refusal {
     WrongSum,
     BadField,
     BadRecord,
+    WrongBias,
 }
 
 // What the ordered tests of a call say.
@@ -73,11 +74,13 @@ pub enum Ticked {
     Refused(Refusal),
 }
 
-// A dump or an integration: kept, the loss that it added to, or nothing to do (command 111).
+// A dump or an integration: kept, the loss that it added to, nothing to do (command 111), or the length in bytes of the
+// speed frame that is written (command 011).
 pub enum Moved {
     Kept,
     Lost(Loss),
     Idle,
+    Sent(u64),
     Refused(Refusal),
 }
 
@@ -117,7 +120,7 @@ pub enum Forecast {
 
 // The fields of a frame's header words.
 pub struct Fields {
-    // The memo's frame type: 2, a frame of the accumulator.
+    // The memo's frame type: 2, a frame of the accumulator; 3, a speed frame.
     pub kind: u32,
     pub cell: u32,
     // Y block, the memo's RECIRC_BLK-Y.
@@ -133,11 +136,22 @@ pub struct Fields {
     pub offset: u32,
 }
 
+// The kinds of frames.
+pub const ACCUMULATED: u32 = 2;
+
+pub const SPEED_FRAME: u32 = 3;
+
 // The most that one tick adds to a sum, in size: 7 × 7 × 2.
 pub const PEAK: u32 = 98;
 
 // The two bytes that stand before every frame.
 pub const MARK: [u8; 2] = [0x4c, 0x54];
+
+// A part of a slice: where it starts, and how long it is.
+pub struct Span {
+    pub at: u64,
+    pub length: u64,
+}
 
 // What the frame reader answers.
 pub enum Parsed {

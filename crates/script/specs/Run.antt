@@ -2,7 +2,7 @@
 use Prim.Native.Nat.{ℕ}
 use mathlib.Core.List.{List, map}
 use Rattle.lta_spec.specs.Words.{zeros}
-use Rattle.lta_spec.specs.Frame.{accumulated, frameLength}
+use Rattle.lta_spec.specs.Frame.{speedFrame, frameLength}
 use Rattle.lta_spec.specs.Demand.{Listed, engineMem}
 use Rattle.lta_spec.specs.Demand.Listed.{onRun}
 use Rattle.lta_spec.specs.Edges.{scriptShape}
@@ -10,9 +10,9 @@ use Rattle.script_records.specs.declared.Record.{Record}
 use Rattle.script_bytes.specs.Bytes.{recordsIn}
 use Rattle.script_calls.specs.Calls.{callOf}
 
--- a buffer with room for a frame of the script's run, for each record anew
+-- a buffer with room for a frame of either kind of the script's run, for each record anew
 abbrev pub blank : List ℕ
-blank = zeros (frameLength accumulated (scriptShape .lags))
+blank = zeros (frameLength speedFrame (scriptShape .lags))
 
 -- records as a list of calls of demand 3
 abbrev pub listed : List Record → List Listed

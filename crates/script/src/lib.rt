@@ -32,7 +32,7 @@ fn run(mem: &mut [u64], r: Record, lines: &mut [u8], at: usize) -> usize
     ensures line { λ _. ⌜ now (lines .exit) ≡ splice (now (lines .entry)) at (recordLine r (now (mem .entry))) ⌝ }
     ensures few { λ e. ⌜ e ≤ at + mostBytes r ⌝ }
 {
-    let mut out = [0u8; 50];
+    let mut out = [0u8; 54];
     let t = call(&mut *mem, r, &mut out);
     put_answer(&mut *lines, at, r, t, &out)
 }

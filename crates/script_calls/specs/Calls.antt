@@ -8,10 +8,10 @@ use Rattle.lta_spec.specs.Edges.{scriptShape}
 use Rattle.script_records.specs.declared.Record.{Record}
 use Rattle.script_records.specs.declared.Record.the-variants as kind
 
--- an emission takes the buffer that is lent
+-- a dump and an emission take the buffer that is lent
 abbrev pub callOf : Record → (out : List ℕ) → Call
 callOf (kind.Tick x y) out = tick (x ∷ y ∷ [])
-callOf (kind.Dump d) out = dump (d .cell) (d .command) (d .bank) (d .phase)
+callOf (kind.Dump d) out = dump (d .cell) (d .command) (d .bank) (d .phase) out
 callOf (kind.Integrate cell) out = integrate cell
 callOf (kind.Emit e) out = emit (e .cell) (e .bank) (e .bin) out
 
@@ -19,9 +19,9 @@ callOf (kind.Emit e) out = emit (e .cell) (e .bank) (e .bin) out
 abbrev pub stepOf : Record → (out mem : List ℕ) → Step
 stepOf r out mem = step scriptShape (callOf r out) mem
 
--- the buffer afterwards: no call but an emission takes it
+-- the buffer afterwards: no other call takes it
 abbrev pub bufferAfter : Record → (out mem : List ℕ) → List ℕ
 bufferAfter (kind.Tick x y) out mem = out
-bufferAfter (kind.Dump d) out mem = out
+bufferAfter (kind.Dump d) out mem = (stepOf (kind.Dump d) out mem) .out
 bufferAfter (kind.Integrate cell) out mem = out
 bufferAfter (kind.Emit e) out mem = (stepOf (kind.Emit e) out mem) .out

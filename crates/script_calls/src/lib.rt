@@ -27,7 +27,7 @@ pub fn shape() -> Shape
     SHAPE
 }
 
-// The call of a record. The frame of an emission goes into the buffer lent.
+// The call of a record. The frame of an emission or of a speed dump goes into the buffer lent.
 pub fn call(mem: &mut [u64], r: Record, out: &mut [u8]) -> Numbered
     ensures answer { λ t. ⌜ numberedAs t ≡ (stepOf r (now (out .entry)) (now (mem .entry))) .answer ⌝ }
     ensures frame { λ _. ⌜ now (out .exit) ≡ bufferAfter r (now (out .entry)) (now (mem .entry)) ⌝ }
@@ -35,7 +35,7 @@ pub fn call(mem: &mut [u64], r: Record, out: &mut [u8]) -> Numbered
 {
     match r {
         Record::Tick(x, y) => ticked(lta::tick(SHAPE, mem, &[x, y])),
-        Record::Dump(d) => moved(lta::dump(SHAPE, mem, d.cell, d.command, d.bank, d.phase)),
+        Record::Dump(d) => moved(lta::dump(SHAPE, mem, d.cell, d.command, d.bank, d.phase, out)),
         Record::Integrate(cell) => moved(lta::integrate(SHAPE, mem, cell)),
         Record::Emit(e) => written(lta::emit(SHAPE, mem, e.cell, e.bank, e.bin, out)),
     }

@@ -12,6 +12,7 @@ use borrow.Author.Tests.{lt-ltb, le-ltb}
 use Rattle.lta_spec.specs.Words.{part}
 use Rattle.lta_spec.specs.Bytes.{wordRange, wordsOf, signed}
 use Rattle.lta_spec.specs.Decimal.{space, lineFeed, decimal}
+use Rattle.lta_spec.specs.Frame.{headWords}
 use Rattle.lta_spec.proofs.WordLaws.{part-next, part-zero, part-add, splice-nil}
 use Rattle.script_lines.specs.Lines.{field, spaced, line, wordField, frameFields}
 use Rattle.script_lines.proofs.PutLaws.{
@@ -111,13 +112,15 @@ module _ (l : List ℕ) (at : ℕ) (letters : List ℕ) (zs : List ℤ) where
   line-put rooms first second third = all-3 rooms first second third
 
 -- the three parts of a frame's words: header words, lags, sum
-pub frame-parts : (out : List ℕ)
+pub frame-parts : (kind : ℕ) (out : List ℕ)
     → let ws = wordsOf (drop 2 out) in
-    words false ws 0 7 ++ words true ws 7 4 ++ words false ws 11 1 ≡ spaced (frameFields out)
+    let h = headWords kind in
+    words false ws 0 h ++ words true ws h 4 ++ words false ws (h + 4) 1 ≡ spaced (frameFields kind out)
 unfolding frameFields
-frame-parts out =
+frame-parts kind out =
     let ws = wordsOf (drop 2 out) in
-    let head = map pos (part 0 7 ws) in
-    let lags = map signed (part 7 4 ws) in
-    let last = map pos (part 11 1 ws) in
+    let h = headWords kind in
+    let head = map pos (part 0 h ws) in
+    let lags = map signed (part h 4 ws) in
+    let last = map pos (part (h + 4) 1 ws) in
     ap (λ l. l ++ spaced last) (spaced-append head lags) ∙ spaced-append (head ++ lags) last

@@ -13,6 +13,8 @@ use borrow.Author.Tests.{ltb-false}
 use Rattle.lta_spec.specs.Words.{part}
 use Rattle.lta_spec.specs.Bytes.{wordRange, wordsOf, signed}
 use Rattle.lta_spec.specs.Decimal.{space, lineFeed}
+use Rattle.lta_spec.specs.Frame.{accumulated, speedFrame, headWords}
+use Rattle.lta_spec.specs.Call.{speed}
 use Rattle.lta_spec.proofs.DecimalLaws.{few-digits}
 use Rattle.lta_spec.proofs.ByteLaws.{Below, below-drop, below-part, words-below}
 use Rattle.script_records.specs.Records.{
@@ -105,24 +107,26 @@ length-part-most : (k n : ℕ) (l : List ℕ) → length (part k n l) ≤ n
 unfolding part
 length-part-most k n l = length-take-most n (drop k l)
 
-frame-most : (out : List ℕ) → Below 256 out → length (spaced (frameFields out)) ≤ 136
-frame-most out b =
+frame-most : (kind : ℕ) (out : List ℕ) → Below 256 out
+    → length (spaced (frameFields kind out)) ≤ 11 * headWords kind + 59
+frame-most kind out b =
     let ws = wordsOf (drop 2 out) in
     let below = words-below (drop 2 out) (below-drop 256 2 out b) in
-    let head = words false ws 0 7 in
-    let lags = words true ws 7 4 in
-    let last = words false ws 11 1 in
-    rw (← frame-parts out)
+    let h = headWords kind in
+    let head = words false ws 0 h in
+    let lags = words true ws h 4 in
+    let last = words false ws (h + 4) 1 in
+    rw (← frame-parts kind out)
     (omega (
       arith,
       length-append (head ++ lags) last,
       length-append head lags,
-      fields-most pos 10 word-field (part 0 7 ws) (below-part wordRange 0 7 ws below),
-      fields-most signed 11 lag-field (part 7 4 ws) (below-part wordRange 7 4 ws below),
-      fields-most pos 10 word-field (part 11 1 ws) (below-part wordRange 11 1 ws below),
-      length-part-most 0 7 ws,
-      length-part-most 7 4 ws,
-      length-part-most 11 1 ws,
+      fields-most pos 10 word-field (part 0 h ws) (below-part wordRange 0 h ws below),
+      fields-most signed 11 lag-field (part h 4 ws) (below-part wordRange h 4 ws below),
+      fields-most pos 10 word-field (part (h + 4) 1 ws) (below-part wordRange (h + 4) 1 ws below),
+      length-part-most 0 h ws,
+      length-part-most h 4 ws,
+      length-part-most (h + 4) 1 ws,
     ))
 
 length-line : (letters : List ℕ) (zs : List ℤ) → length (line letters zs) ≡ length letters + length (spaced zs) + 1
@@ -160,9 +164,15 @@ refusal-fits r k h =
 value-fits : (r : Record) (k : ℕ) (out : List ℕ) → k < longRange → Below 256 out
     → length (spaced (valueFields r k out)) + 5 ≤ mostBytes r
 value-fits (kind.Tick x y) k out h b = omega (arith, length-spaced (pos k) [], length-none, long-field k h)
-value-fits (kind.Dump d) k out h b = omega (arith, length-spaced (pos k) [], length-none, long-field k h)
+value-fits (kind.Dump d) k out h b = by-test (eqb (d .command) speed)
+  where
+    by-test : (s : Bool)
+        → let sent = cond s speedFrame 0 in
+        length (spaced (cond (eqb sent 0) (pos k ∷ []) (frameFields sent out))) + 5 ≤ 152
+    by-test true = omega (arith, frame-most speedFrame out b)
+    by-test false = omega (arith, length-spaced (pos k) [], length-none, long-field k h)
 value-fits (kind.Integrate cell) k out h b = omega (arith, length-spaced (pos k) [], length-none, long-field k h)
-value-fits (kind.Emit e) k out h b = omega (arith, frame-most out b)
+value-fits (kind.Emit e) k out h b = omega (arith, frame-most accumulated out b)
 
 pub accepted-fits : (r : Record) (k : ℕ) (out : List ℕ) → k < longRange → Below 256 out
     → length (line (lettersOf r) (pos 0 ∷ valueFields r k out)) ≤ mostBytes r

@@ -1,8 +1,12 @@
 // The lines that a script prints, put into a lent buffer: each function puts its bytes from `at` on and answers the
 // place behind them.
+use cell_layout::SPEED;
+use frame_header::head_words;
 use frame_word::word_at;
 use host_answer::Numbered;
 use host_answer::refusal_number;
+use lta_spec::ACCUMULATED;
+use lta_spec::SPEED_FRAME;
 use script_bytes::tail;
 use script_records::Record;
 use text::put_byte;
@@ -17,7 +21,7 @@ ghost use Rattle.lta_spec.specs.Words.{splice};
 ghost use Rattle.lta_spec.specs.Bytes.{signed};
 ghost use Rattle.host_answer.specs.Numbered.{numberedAs};
 ghost use Rattle.script_lines.specs.Lines.{spaced, line, lettersOf, wordField, wordFields};
-ghost use Rattle.script_lines.specs.Lines.{frameFields, valueFields, answerLine, endLine, mostBytes};
+ghost use Rattle.script_lines.specs.Lines.{frameFields, sentKind, valueFields, answerLine, endLine, mostBytes};
 
 // A space and a number.
 fn put_field(lines: &mut [u8], at: usize, n: u64) -> usize
@@ -73,31 +77,45 @@ fn put_words(lines: &mut [u8], at: usize, body: &[u8], k: usize, n: usize, lag: 
 }
 
 // The words of a frame of two lags: header words, lags, sum.
-fn put_frame(lines: &mut [u8], at: usize, frame: &[u8]) -> usize
-    requires whole { ⌜ length (now frame) ≡ 50 ⌝ }
-    requires room { ⌜ at + length (spaced (frameFields (now frame))) ≤ length (now lines) ⌝ }
-    ensures behind { λ r. ⌜ r ≡ at + length (spaced (frameFields (now (frame .entry)))) ⌝ }
+fn put_frame(lines: &mut [u8], at: usize, kind: u32, frame: &[u8]) -> usize
+    requires whole { ⌜ length (now frame) ≡ 54 ⌝ }
+    requires room { ⌜ at + length (spaced (frameFields kind (now frame))) ≤ length (now lines) ⌝ }
+    ensures behind { λ r. ⌜ r ≡ at + length (spaced (frameFields kind (now (frame .entry)))) ⌝ }
     ensures leaves { λ _. ⌜ now (lines .exit)
-        ≡ splice (now (lines .entry)) at (spaced (frameFields (now (frame .entry)))) ⌝ }
+        ≡ splice (now (lines .entry)) at (spaced (frameFields kind (now (frame .entry)))) ⌝ }
 {
     let body = tail(frame, 2);
-    let i = put_words(&mut *lines, at, body, 0, 7, false);
-    let j = put_words(&mut *lines, i, body, 7, 4, true);
-    put_words(&mut *lines, j, body, 11, 1, false)
+    let head = head_words(kind);
+    let i = put_words(&mut *lines, at, body, 0, head, false);
+    let j = put_words(&mut *lines, i, body, head, 4, true);
+    put_words(&mut *lines, j, body, head + 4, 1, false)
+}
+
+// The kind of the frame that a record's call leaves in the buffer where it is accepted, 0 for none.
+fn sent_kind(r: Record) -> u32
+    ensures { λ k. ⌜ k ≡ sentKind r ⌝ }
+{
+    match r {
+        Record::Tick(_, _) => 0,
+        Record::Dump(d) => if d.command == SPEED { SPEED_FRAME } else { 0 },
+        Record::Integrate(_) => 0,
+        Record::Emit(_) => ACCUMULATED,
+    }
 }
 
 // What a record that is accepted prints behind 0.
 fn put_value(lines: &mut [u8], at: usize, r: Record, k: u64, frame: &[u8]) -> usize
-    requires whole { ⌜ length (now frame) ≡ 50 ⌝ }
+    requires whole { ⌜ length (now frame) ≡ 54 ⌝ }
     requires room { ⌜ at + length (spaced (valueFields r k (now frame))) ≤ length (now lines) ⌝ }
     ensures behind { λ e. ⌜ e ≡ at + length (spaced (valueFields r k (now (frame .entry)))) ⌝ }
     ensures leaves { λ _. ⌜ now (lines .exit)
         ≡ splice (now (lines .entry)) at (spaced (valueFields r k (now (frame .entry)))) ⌝ }
 {
-    let Record::Emit(_) = r else {
+    let kind = sent_kind(r);
+    if kind == 0 {
         return put_field(&mut *lines, at, k);
-    };
-    put_frame(&mut *lines, at, frame)
+    }
+    put_frame(&mut *lines, at, kind, frame)
 }
 
 // The two letters of a record.
@@ -128,7 +146,7 @@ fn put_refusal(lines: &mut [u8], at: usize, r: Record, k: u64) -> usize
 
 // The line of a record that is accepted: 0, and what it answers.
 fn put_accepted(lines: &mut [u8], at: usize, r: Record, k: u64, frame: &[u8]) -> usize
-    requires whole { ⌜ length (now frame) ≡ 50 ⌝ }
+    requires whole { ⌜ length (now frame) ≡ 54 ⌝ }
     requires room { ⌜ at + mostBytes r ≤ length (now lines) ⌝ }
     ensures behind { λ e. ⌜ e ≡ at + length (line (lettersOf r) (pos 0 ∷ valueFields r k (now (frame .entry)))) ⌝ }
     ensures leaves { λ _. ⌜ now (lines .exit)
@@ -142,8 +160,8 @@ fn put_accepted(lines: &mut [u8], at: usize, r: Record, k: u64, frame: &[u8]) ->
     put_byte(&mut *lines, e, b'\n')
 }
 
-// The line of a record's answer; an emission's frame is in the buffer.
-pub fn put_answer(lines: &mut [u8], at: usize, r: Record, t: Numbered, frame: &[u8; 50]) -> usize
+// The line of a record's answer; the frame of an emission or of a speed dump is in the buffer.
+pub fn put_answer(lines: &mut [u8], at: usize, r: Record, t: Numbered, frame: &[u8; 54]) -> usize
     requires { ⌜ at + mostBytes r ≤ length (now lines) ⌝ }
     ensures behind { λ e. ⌜ e ≡ at + length (answerLine r (numberedAs t) (now (frame .entry))) ⌝ }
     ensures leaves { λ _. ⌜ now (lines .exit)

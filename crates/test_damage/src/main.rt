@@ -8,7 +8,7 @@ use test_lib_tools::report::line;
 use test_lib_tools::report::verdict;
 
 // The group of rows behind those of the calls: losses at the limits of a page.
-const LOSSES: u64 = 9;
+const LOSSES: u64 = 10;
 
 fn size(g: u64, n: u64) -> u64 {
     if g == LOSSES { 30 } else { sweep::size(g, n) }
@@ -36,7 +36,8 @@ fn rows(g: u64, n: u64) -> Tally {
 
 // The line of group g, whose name is here in eight bytes.
 fn line_of(failed: u64, n: u64, g: u64) -> u64 {
-    let names = b"tick    keep    discard idle    integr. emit    reading forecastpage    losses  ";
+    let names =
+        b"tick    keep    discard idle    integr. emit    reading forecastpage    speed   losses  ";
     line(failed, n, names, g, rows(g, n))
 }
 
@@ -49,7 +50,8 @@ fn lines_at(failed: u64, n: u64) -> u64 {
     let integrate = line_of(idle, n, 4);
     let emit = line_of(integrate, n, 5);
     let reading = line_of(emit, n, 6);
-    line_of(line_of(reading, n, 7), n, 8)
+    let page = line_of(line_of(reading, n, 7), n, 8);
+    line_of(page, n, 9)
 }
 
 fn main() {

@@ -14,6 +14,7 @@ use test_lib_rules::call::FORECAST;
 use test_lib_rules::call::INTEGRATE;
 use test_lib_rules::call::PAGE;
 use test_lib_rules::call::READING;
+use test_lib_rules::call::SPEED_DUMP;
 use test_lib_rules::call::TICK;
 use test_lib_rules::call::needed;
 use test_lib_rules::page;
@@ -58,11 +59,11 @@ fn value(j: u64, u: u64, ticks: u64) -> u64 {
     }
 }
 
-// The calls: a tick; a dump that keeps, 100 and 111; an integration, an emission, a reading, a forecast, a page.
+// The calls: a tick; a dump that keeps, 100 and 111; an integration, an emission, a reading, a forecast, a page; 011.
 fn kind(g: u64) -> u64 {
     match g {
         0 => TICK,
-        1 | 2 | 3 => DUMP,
+        1 | 2 | 3 | 9 => DUMP,
         4 => INTEGRATE,
         5 => EMIT,
         6 => READING,
@@ -78,6 +79,7 @@ fn first(g: u64, i: u64) -> u64 {
         1 => i / 4 % 3,
         2 => 4,
         3 => 7,
+        9 => SPEED_DUMP,
         _ => 1,
     }
 }
@@ -90,11 +92,12 @@ fn second(g: u64) -> u64 {
     }
 }
 
-// Samples of both cells, a frame's length, a page's.
+// Samples of both cells, a frame's length, a page's, a speed frame's.
 fn bytes(n: u64, g: u64) -> u64 {
     match g {
         0 => 4,
         8 => page::length(2),
+        9 => 38 + 8 * (n % 256),
         _ => 34 + 8 * (n % 256),
     }
 }
@@ -113,11 +116,11 @@ fn call(n: u64, g: u64, i: u64) -> Call {
 }
 
 // How many variants matter to call g, and which they are.
-const VARIANTS: [u64; 9] = [2, 12, 4, 4, 18, 3, 1, 2, 1];
+const VARIANTS: [u64; 10] = [2, 12, 4, 4, 18, 3, 1, 2, 1, 4];
 
 fn variant_of(g: u64, i: u64) -> u64 {
     match g {
-        1 | 2 | 3 => variant(i % 2, 0, 0, i / 2),
+        1 | 2 | 3 | 9 => variant(i % 2, 0, 0, i / 2),
         4 => i,
         5 => variant(0, 0, i, 0),
         _ => variant(0, 0, 0, i),

@@ -26,6 +26,7 @@ use test_lib_rules::call::Call;
 use test_lib_rules::call::DUMP;
 use test_lib_rules::call::EMIT;
 use test_lib_rules::call::INTEGRATE;
+use test_lib_rules::call::SPEED_DUMP;
 use test_lib_rules::call::TICK;
 use test_lib_rules::call::cell_words;
 use test_lib_rules::call::data_bin;
@@ -39,12 +40,18 @@ use test_lib_rules::history::pair;
 use test_lib_tools::words::get;
 use test_lib_tools::words::less;
 
+// Word j where the row that starts with word `from` is empty.
+fn emptied(cell: &[u64], n: u64, from: u64, j: u64) -> u64 {
+    if within(j, from, row_words(n)) {
+        0
+    } else {
+        get(cell, j)
+    }
+}
+
 // Word j where the row that starts with word `from` goes to the one that starts with word `to`, and is empty.
 fn moved(cell: &[u64], n: u64, from: u64, to: u64, j: u64) -> u64 {
-    let now = get(cell, j);
-    if within(j, from, row_words(n)) {
-        return 0;
-    }
+    let now = emptied(cell, n, from, j);
     if within(j, to, row_words(n)) {
         wrapping_add_u64(now, get(cell, wrapping_add_u64(from, less(j, to))))
     } else {
@@ -69,13 +76,18 @@ fn block_after(cell: &[u64], m: u64, command: u64) -> u64 {
     next_block(get(cell, BLOCK), get(cell, LAST_COMMAND), command, m)
 }
 
+// The data bin in the label of a dump but 111.
+pub fn dump_bin(cell: &[u64], m: u64, k: Call) -> u64 {
+    data_bin(k.phase, m, block_after(cell, m, k.a))
+}
+
 // A kept dump: the label and the stamp of Held.
 fn label_word(cell: &[u64], m: u64, k: Call, j: u64) -> u64 {
     match j {
         FLAG => 1,
         COMMAND => k.a,
         BANK => k.b,
-        BIN => data_bin(k.phase, m, block_after(cell, m, k.a)),
+        BIN => dump_bin(cell, m, k),
         _ => get(cell, OPEN_STAMP),
     }
 }
@@ -96,13 +108,17 @@ fn dump_field(cell: &[u64], m: u64, t: u64, k: Call, answer: u64, j: u64) -> u64
     }
 }
 
-// A dump but 111: Open goes to Held or to a loss.
+// A dump but 111: Open goes to Held or to a loss; of 011, to its frame alone.
 fn dump_word(cell: &[u64], n: u64, m: u64, t: u64, k: Call, answer: u64, j: u64) -> u64 {
     if j <= LAST_COMMAND {
         return dump_field(cell, m, t, k, answer, j);
     }
+    let from = row(n, OPEN);
+    if k.a == SPEED_DUMP {
+        return emptied(cell, n, from, j);
+    }
     let to = if answer == 0 { HELD } else { loss(answer) };
-    moved(cell, n, row(n, OPEN), row(n, to), j)
+    moved(cell, n, from, row(n, to), j)
 }
 
 // The state of Held's bin: "A Free bin becomes Filling. After 010 a bin is Ready, also after loss 5."
@@ -146,10 +162,10 @@ fn integrate_word(cell: &[u64], n: u64, at: u64, answer: u64, j: u64) -> u64 {
 
 // An emission of the bin at `at`: it is Free and empty, and keeps its stamp.
 fn emit_word(cell: &[u64], n: u64, at: u64, j: u64) -> u64 {
-    if (j == at) | within(j, wrapping_add_u64(at, 2), row_words(n)) {
+    if j == at {
         0
     } else {
-        get(cell, j)
+        emptied(cell, n, wrapping_add_u64(at, 2), j)
     }
 }
 

@@ -57,6 +57,7 @@ fn moved(a: Moved) -> u64 {
         Moved::Kept => ACCEPTED,
         Moved::Lost(l) => wrapping_add_u64(ACCEPTED, loss_number(l)),
         Moved::Idle => ACCEPTED + 7,
+        Moved::Sent(l) => wrapping_add_u64(ACCEPTED, l),
         Moved::Refused(r) => number(r),
     }
 }
@@ -94,17 +95,16 @@ pub fn setup(s: Shape, mem: &mut [u64], words: u64) -> u64 {
     }
 }
 
-// A tick, a dump or an integration, of as many samples as the call lends.
+// A tick, of as many samples as the call lends, or an integration.
 fn on_lent(s: Shape, mem: &mut [u64], k: Call, samples: &[u8]) -> u64 {
-    let kind = k.kind;
-    match kind {
-        TICK => ticked(lta::tick(s, mem, head(samples, (k.bytes % 65536) as usize))),
-        DUMP => moved(lta::dump(s, mem, k.cell, k.a, k.b, k.phase)),
-        _ => moved(lta::integrate(s, mem, k.cell)),
+    if k.kind == TICK {
+        ticked(lta::tick(s, mem, head(samples, (k.bytes % 65536) as usize)))
+    } else {
+        moved(lta::integrate(s, mem, k.cell))
     }
 }
 
-// A tick, a dump or an integration, on as many words as the call lends.
+// A tick or an integration, on as many words as the call lends.
 pub fn moves(s: Shape, mem: &mut [u64], k: Call, samples: &[u8]) -> u64 {
     let e = (k.words % 65536) as usize;
     if e <= mem.len() {
@@ -114,16 +114,17 @@ pub fn moves(s: Shape, mem: &mut [u64], k: Call, samples: &[u8]) -> u64 {
     }
 }
 
-// An emission or a page.
+// A dump, an emission or a page.
 fn into_lent(s: Shape, mem: &mut [u64], k: Call, out: &mut [u8]) -> u64 {
-    if k.kind == PAGE {
-        written(lta::page(s, mem, out))
-    } else {
-        written(lta::emit(s, mem, k.cell, k.a, k.b, out))
+    let kind = k.kind;
+    match kind {
+        DUMP => moved(lta::dump(s, mem, k.cell, k.a, k.b, k.phase, out)),
+        PAGE => written(lta::page(s, mem, out)),
+        _ => written(lta::emit(s, mem, k.cell, k.a, k.b, out)),
     }
 }
 
-// An emission or a page, into as many bytes as the call lends.
+// A dump, an emission or a page, into as many bytes as the call lends.
 fn writes_lent(s: Shape, mem: &mut [u64], k: Call, out: &mut [u8]) -> u64 {
     let room = (k.bytes % 65536) as usize;
     if room <= out.len() {

@@ -6,10 +6,14 @@ use test_lib_frames::ask::reads_as;
 use test_lib_frames::build::FULL;
 use test_lib_frames::build::SEED;
 use test_lib_frames::build::build;
+use test_lib_frames::build::coded;
+use test_lib_frames::build::kind_of;
 use test_lib_frames::build::lag;
 use test_lib_frames::build::seal;
 use test_lib_frames::due::due;
 use test_lib_tools::bytes::head;
+use test_lib_tools::bytes::heads;
+use test_lib_tools::bytes::lags_at;
 use test_lib_tools::bytes::last;
 use test_lib_tools::bytes::length;
 use test_lib_tools::bytes::minus;
@@ -24,11 +28,11 @@ use test_lib_tools::words::get;
 use test_lib_tools::words::word_of;
 
 // Is lag k of the frame its numbers divided by the centre count? (Where that is 0, expect_read tests "no data".)
-fn lag_right(n: u64, bytes: &[u8], k: u64) -> bool {
+fn lag_right(kind: u64, n: u64, bytes: &[u8], k: u64) -> bool {
     let j = 2 * (k % 256) as usize;
     let centre = word(bytes, 3);
-    let i = lag(bytes, 30, j) as f64;
-    let q = lag(bytes, 30, j + 1) as f64;
+    let i = lag(bytes, lags_at(kind), j) as f64;
+    let q = lag(bytes, lags_at(kind), j + 1) as f64;
     (centre == 0) | normal_is(n, bytes, k, i / centre as f64, q / centre as f64)
 }
 
@@ -37,28 +41,37 @@ fn lag_right(n: u64, bytes: &[u8], k: u64) -> bool {
 pub fn whole(t: Tally, n: u64, code: u64, k: u64) -> Tally {
     let mut s = [0u8; 1200];
     build(&mut s, n, code);
-    let bytes = head(&s, length(n));
-    let a = expect_read(t, n, bytes, length(n), 0);
+    let kind = kind_of(code);
+    let len = length(n, kind);
+    let bytes = head(&s, len);
+    let a = expect_read(t, n, bytes, len, 0);
     let b = note(a, reads_as(n, bytes, code));
-    let c = note(b, lag_right(n, bytes, k));
+    let c = note(b, lag_right(kind, n, bytes, k));
     note(c, comes_back(n, bytes))
 }
 
+// The code of pseudo-random frame i.
+fn seed_of(kind: u64, i: u64) -> u64 {
+    coded(kind, SEED + i % 4294967296)
+}
+
 // Pseudo-random frame i.
-pub fn random(t: Tally, n: u64, i: u64) -> Tally {
-    let seed = SEED + i % 4294967296;
+pub fn random(t: Tally, kind: u64, n: u64, i: u64) -> Tally {
+    let seed = seed_of(kind, i);
     whole(t, n, seed, below(seed, 90, n))
 }
 
 // 98 × 16,777,215 in I and -98 × 16,777,215 in Q of every lag: the first and the last lag normalised.
-pub fn greatest(t: Tally, n: u64) -> Tally {
-    let a = whole(t, n, FULL + 16777215, 0);
-    whole(a, n, FULL + 16777215, (n % 256 + 255) % 256)
+pub fn greatest(t: Tally, kind: u64, n: u64) -> Tally {
+    let code = coded(kind, FULL + 16777215);
+    let a = whole(t, n, code, 0);
+    whole(a, n, code, (n % 256 + 255) % 256)
 }
 
-// Values at or next to a limit of document 01.
-const ODD: [u64; 9] = [
+// Values at or next to a limit of document 01, and kind 3.
+const ODD: [u64; 10] = [
     2,
+    3,
     0x7802,
     0x83e7ff00,
     0x83e8ff00,
@@ -81,18 +94,22 @@ fn other(seed: u64, w: u32, ticks: u32) -> u32 {
         5 => minus(most + 1),
         6 => upto(seed, 92, 4294967295),
         7 | 8 | 9 | 10 => w ^ word_of(1 + below(seed, 94, 255) % 256),
-        _ => word_of(get(&ODD, below(seed, 93, 9))),
+        _ => word_of(get(&ODD, below(seed, 93, 10))),
     }
 }
 
 // Another value in one word, every second time of the header; in two of three cases the last word is right again.
-fn damage(s: &mut [u8], n: u64, seed: u64) {
-    let end = pick(below(seed, 95, 2) == 0, 7, last(n) as u64);
+fn damage(s: &mut [u8], kind: u64, n: u64, seed: u64) {
+    let end = pick(
+        below(seed, 95, 2) == 0,
+        heads(kind) as u64,
+        last(n, kind) as u64,
+    );
     let k = below(seed, 96, end) as usize;
     let w = other(seed, word(s, k), word(s, 2));
     put_word(&mut *s, k, w);
     let add = pick(seed % 3 == 0, below(seed, 99, 4294967296), 0);
-    seal(&mut *s, n, word_of(add));
+    seal(&mut *s, n, kind, word_of(add));
 }
 
 // Rows: of the first `len` bytes the calls say what the model says; where they are a frame, it is written again from
@@ -109,13 +126,13 @@ fn as_due(t: Tally, n: u64, s: &[u8], len: usize) -> Tally {
 }
 
 // Pseudo-random frame i, damaged; read as what it is, with another N, and in another length.
-pub fn damaged(t: Tally, n: u64, i: u64) -> Tally {
+pub fn damaged(t: Tally, kind: u64, n: u64, i: u64) -> Tally {
     let mut s = [0u8; 1200];
-    let seed = SEED + i % 4294967296;
+    let seed = seed_of(kind, i);
     build(&mut s, n, seed);
-    damage(&mut s, n, seed);
+    damage(&mut s, kind, n, seed);
     let m = below(seed, 97, 140);
-    let a = as_due(t, n, &s, length(n));
-    let b = as_due(a, m, &s, length(m));
+    let a = as_due(t, n, &s, length(n, kind));
+    let b = as_due(a, m, &s, length(m, kind));
     as_due(b, n, &s, below(seed, 98, 1100) as usize)
 }

@@ -1,11 +1,15 @@
 // The writer from fields: every field at its limits and past them, the lag numbers, and the buffer.
+use crate::damage::turned;
 use crate::sweep::whole;
 use test_lib_frames::ask::expect_read;
 use test_lib_frames::ask::expect_write;
 use test_lib_frames::build::BASE;
 use test_lib_frames::build::build;
 use test_lib_frames::build::build_with;
+use test_lib_frames::build::coded;
+use test_lib_frames::build::kind_of;
 use test_lib_frames::build::near;
+use test_lib_tools::bytes::heads;
 use test_lib_tools::bytes::length;
 use test_lib_tools::bytes::twice;
 use test_lib_tools::report::Tally;
@@ -33,37 +37,40 @@ fn written(
         &s,
         count,
         room,
-        pick(fits, length(n) as u64, number),
+        pick(fits, length(n, kind_of(code)) as u64, number),
     )
 }
 
-// "not 2N lag numbers": 2N; one and many more; none, two, one less and four less.
-pub fn count(t: Tally, n: u64, i: u64) -> Tally {
-    written(t, n, BASE, near(twice(n), i), length(n), i == 0, 16)
+// "not 2N lag numbers": 2N; one, four and many more; none, two, one less and four less.
+pub fn count(t: Tally, kind: u64, n: u64, i: u64) -> Tally {
+    let code = coded(kind, BASE);
+    written(t, n, code, near(twice(n), i), length(n, kind), i == 0, 16)
 }
 
-// 10, "buffer shorter than a frame": just enough, a byte and many more, which are kept; no room, a mark's, a byte and
-// a word too few.
-pub fn room(t: Tally, n: u64, i: u64) -> Tally {
-    written(t, n, BASE, twice(n), near(length(n), i), i < 3, 10)
+// 10, "buffer shorter than a frame": just enough, a byte, a word and many more, which are kept; no room, a mark's, a
+// byte and a word too few.
+pub fn room(t: Tally, kind: u64, n: u64, i: u64) -> Tally {
+    let code = coded(kind, BASE);
+    written(t, n, code, twice(n), near(length(n, kind), i), i < 4, 10)
 }
 
 // "a lag beyond 98 × ticks": 98000 and -98000 are the limits of the base frame; 98001, -98001, -2^31 and 2^31 - 1.
 const LAGS: [u64; 6] = [98000, 4294869296, 98001, 4294869295, 0x80000000, 0x7fffffff];
 
 // Row i: number i mod 6 of these as lag word i div 6, read and written.
-pub fn lag(t: Tally, n: u64, i: u64) -> Tally {
+pub fn lag(t: Tally, kind: u64, n: u64, i: u64) -> Tally {
     let mut s = [0u8; 1200];
+    let code = coded(kind, BASE);
     let fits = i % 6 < 2;
-    let w = word_of(get(&LAGS, i % 6));
-    build_with(&mut s, n, BASE, 7 + (i / 6 % 512) as usize, w, 0);
-    let len = length(n);
+    let at = heads(kind) % 16 + (i / 6 % 512) as usize;
+    build_with(&mut s, n, code, at, word_of(get(&LAGS, i % 6)), 0);
+    let len = length(n, kind);
     let a = expect_read(t, n, &s, len, pick(fits, 0, 16));
-    expect_write(a, n, BASE, &s, twice(n), len, pick(fits, len as u64, 16))
+    expect_write(a, n, code, &s, twice(n), len, pick(fits, len as u64, 16))
 }
 
-// Codes of frames: the field's number, in the order of Fields, and its value. First 20 that are written, then 34 that
-// 16 is due to.
+// Codes of frames of kind 2: the field's number, in the order of Fields, and its value. First 20 that are written, then
+// 34 that 16 is due to.
 const FIELDS: [u64; 54] = [
     // kind, cell, block
     0x0_0000_0002,
@@ -89,10 +96,10 @@ const FIELDS: [u64; 54] = [
     0x8_ffff_ffff,
     0x9_0000_0000,
     0x9_0f42_3fff,
-    // "bits 0-2 = 2", also where only bits too high for the field differ
+    // "2 or 3, else 16", also where only bits too high for the field differ
     0x0_0000_0000,
     0x0_0000_0001,
-    0x0_0000_0003,
+    0x0_0000_0004,
     0x0_0000_0007,
     0x0_0000_000a,
     0x0_8000_0002,
@@ -132,8 +139,8 @@ const FIELDS: [u64; 54] = [
 ];
 
 // Row i of the table: the base frame with another value in one field, written; where no number is due, also read.
-pub fn field(t: Tally, n: u64, i: u64) -> Tally {
-    let code = get(&FIELDS, i);
-    let a = written(t, n, code, twice(n), length(n), i < 20, 16);
+pub fn field(t: Tally, kind: u64, n: u64, i: u64) -> Tally {
+    let code = coded(kind, turned(kind, get(&FIELDS, i)));
+    let a = written(t, n, code, twice(n), length(n, kind), i < 20, 16);
     if i < 20 { whole(a, n, code, 0) } else { a }
 }

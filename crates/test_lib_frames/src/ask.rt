@@ -1,7 +1,9 @@
-// The calls that are tested, with their answers as document 01's numbers, and the rows that hold them to it.
+// The calls that are tested, with their answers as the papers' numbers, and the rows that hold them to it.
 use crate::build::fields_of;
 use crate::build::first;
+use crate::build::kind_of;
 use crate::build::numbers;
+use crate::due::kind_at;
 use check::same;
 use lta_spec::Fields;
 use lta_spec::Normalised;
@@ -11,7 +13,7 @@ use lta_spec::Written;
 use test_lib_tools::bytes::fill_pattern;
 use test_lib_tools::bytes::head;
 use test_lib_tools::bytes::kept;
-use test_lib_tools::bytes::length;
+use test_lib_tools::bytes::lags_at;
 use test_lib_tools::bytes::twice;
 use test_lib_tools::bytes::word;
 use test_lib_tools::report::Tally;
@@ -23,6 +25,9 @@ const ACCEPTED: u64 = 0;
 
 pub const NO_DATA: u64 = 20;
 
+// The length of the shortest frame: no refusal has a number so great.
+const SHORTEST: u64 = 50;
+
 // "Who may be told no": the numbers that a frame call can give, and 99 for any other.
 fn number(r: Refusal) -> u64 {
     match r {
@@ -33,6 +38,7 @@ fn number(r: Refusal) -> u64 {
         Refusal::WrongMark => 14,
         Refusal::WrongSum => 15,
         Refusal::BadField => 16,
+        Refusal::WrongBias => 18,
         _ => 99,
     }
 }
@@ -54,7 +60,7 @@ pub fn normal(n: u64, bytes: &[u8], k: u64) -> u64 {
     }
 }
 
-// The writer's answer into the first `room` bytes: the frame's length, which is above every refusal number.
+// The writer's answer into the first `room` bytes: the frame's length, or a refusal number.
 fn write(n: u64, f: Fields, lags: &[i32], out: &mut [u8], room: usize) -> u64 {
     if room <= out.len() {
         match frame::write_frame(n, f, lags, &mut out[0..room]) {
@@ -69,10 +75,11 @@ fn write(n: u64, f: Fields, lags: &[i32], out: &mut [u8], room: usize) -> u64 {
 // "returns .. the part of the caller's bytes that holds the lag pairs", "the empty part where the reader refuses".
 fn part_right(n: u64, bytes: &[u8], says: u64) -> bool {
     let part = frame::lag_part(n, bytes);
-    let e = 30 + 4 * (twice(n) % 512);
+    let a = lags_at(kind_at(n, bytes.len())) % 64;
+    let e = a + 4 * (twice(n) % 512);
     if says == ACCEPTED {
         if e <= bytes.len() {
-            return same(part, &bytes[30..e]);
+            return same(part, &bytes[a..e]);
         }
         return false;
     }
@@ -106,7 +113,11 @@ fn writes(n: u64, f: Fields, lags: &[i32], want: &[u8], room: usize, says: u64) 
     let mut out = [0u8; 1200];
     fill_pattern(&mut out);
     let told = write(n, f, lags, &mut out, room) == says;
-    let end = if says < 18 { 0 } else { length(n) };
+    let end = if says < SHORTEST {
+        0
+    } else {
+        (says % 4096) as usize
+    };
     let frame = same(head(&out, end), head(want, end));
     told & frame & kept(&out, end)
 }
@@ -122,9 +133,9 @@ pub fn expect_write(
     says: u64,
 ) -> Tally {
     let mut lags = [0i32; 260];
-    numbers(s, 30, &mut lags);
+    numbers(s, lags_at(kind_of(code)), &mut lags);
     let right = writes(n, fields_of(code), first(&lags, count), s, room, says);
-    row(t, right, says < 18)
+    row(t, right, says < SHORTEST)
 }
 
 // Are these fields and the numbers of the lag part written as the bytes that they were read from? They go into a
@@ -132,7 +143,14 @@ pub fn expect_write(
 fn rewritten(n: u64, f: Fields, bytes: &[u8]) -> bool {
     let mut lags = [0i32; 260];
     numbers(frame::lag_part(n, bytes), 0, &mut lags);
-    writes(n, f, first(&lags, twice(n)), bytes, 1200, length(n) as u64)
+    writes(
+        n,
+        f,
+        first(&lags, twice(n)),
+        bytes,
+        1200,
+        bytes.len() as u64,
+    )
 }
 
 // Is the frame accepted, and written again, byte for byte, from what the reader and the lag part give?

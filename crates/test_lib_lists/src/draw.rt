@@ -15,6 +15,9 @@ use test_lib_rules::call::TICK;
 use test_lib_rules::call::needed;
 use test_lib_rules::call::shaped;
 use test_lib_rules::page;
+use test_lib_tools::bytes::BINNED;
+use test_lib_tools::bytes::SPEED;
+use test_lib_tools::bytes::length;
 use test_lib_tools::random::below;
 use test_lib_tools::words::get;
 use test_lib_tools::words::less;
@@ -84,7 +87,7 @@ fn samples(m: &[u64], i: u64) -> u64 {
     near(random(m, i, 5, 120), right, right + 2)
 }
 
-// The buffer of an emission or a page: now and then a long one.
+// The buffer of a dump, an emission or a page: now and then a long one.
 fn room(m: &[u64], i: u64, right: u64) -> u64 {
     let x = random(m, i, 5, 16);
     near(if x == 4 { 3 } else { x }, right, 4100)
@@ -93,18 +96,19 @@ fn room(m: &[u64], i: u64, right: u64) -> u64 {
 fn bytes(m: &[u64], i: u64, kind: u64) -> u64 {
     match kind {
         TICK => samples(m, i),
+        DUMP => room(m, i, length(lags(m), SPEED) as u64),
         PAGE => room(m, i, page::length(cells(m))),
-        _ => room(m, i, 34 + 8 * (lags(m) % 256)),
+        _ => room(m, i, length(lags(m), BINNED) as u64),
     }
 }
 
 // Every command from 000 to 1000b, those that are accepted more often, and now and then a far one.
 fn command(m: &[u64], i: u64) -> u64 {
-    let x = random(m, i, 8, 25);
-    if x == 24 {
+    let x = random(m, i, 8, 29);
+    if x == 28 {
         past(random(m, i, 9, 6), 9)
     } else {
-        digit(b"012345678000011112222447", x)
+        digit(b"0123456780000111122223333447", x)
     }
 }
 

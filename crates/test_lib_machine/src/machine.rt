@@ -25,11 +25,15 @@ use test_lib_rules::call::EMIT;
 use test_lib_rules::call::INTEGRATE;
 use test_lib_rules::call::PAGE;
 use test_lib_rules::call::READING;
+use test_lib_rules::call::SPEED_DUMP;
 use test_lib_rules::call::TICK;
 use test_lib_rules::call::data_bin;
 use test_lib_rules::call::next_block;
 use test_lib_rules::call::stored_command;
+use test_lib_rules::frame_words;
 use test_lib_rules::page;
+use test_lib_tools::bytes::BINNED;
+use test_lib_tools::bytes::SPEED;
 use test_lib_tools::words::less;
 use test_lib_tools::words::put;
 
@@ -78,6 +82,15 @@ fn dump_answer(m: &[u64], c: u64, command: u64) -> u64 {
     if occupied(m, c) { 2 } else { 0 }
 }
 
+// Of command 011: "answers its length", "10 applies to it last"; Held is not asked.
+fn dump_says(m: &[u64], k: Call) -> u64 {
+    if k.a == SPEED_DUMP {
+        frame_words::says(lags(m), SPEED, k.bytes)
+    } else {
+        wrapping_add_u64(ACCEPTED, dump_answer(m, k.cell, k.a))
+    }
+}
+
 // The bin of Held's label, of 2B.
 fn label_bin(m: &[u64], c: u64) -> u64 {
     bin_number(m, of_cell(m, c, 2), of_cell(m, c, 3))
@@ -100,15 +113,11 @@ fn integrate_answer(m: &[u64], c: u64) -> u64 {
 
 // "9: bin not Ready, 10: buffer shorter than a frame", or the frame's length.
 fn emit_says(m: &[u64], k: Call) -> u64 {
-    let length = 34 + 8 * (lags(m) % 256);
     let bin = bin_number(m, k.a, k.b);
     if state(m, k.cell, bin) != 2 {
-        return 9;
-    }
-    if k.bytes < length {
-        10
+        9
     } else {
-        ACCEPTED + length
+        frame_words::says(lags(m), BINNED, k.bytes)
     }
 }
 
@@ -119,7 +128,7 @@ pub fn says(m: &[u64], k: Call) -> u64 {
     let kind = k.kind;
     match kind {
         TICK => wrapping_add_u64(ACCEPTED, tick_answer(m)),
-        DUMP => wrapping_add_u64(ACCEPTED, dump_answer(m, c, k.a)),
+        DUMP => dump_says(m, k),
         INTEGRATE => {
             if occupied(m, c) {
                 wrapping_add_u64(ACCEPTED, integrate_answer(m, c))
@@ -167,39 +176,57 @@ fn set_label(m: &mut [u64], c: u64, command: u64, bank: u64, bin: u64) {
     set_cell(m, c, 3, bin);
 }
 
-// The cell's block moves, and the command becomes its last: of every accepted dump but 111.
-fn count_block(m: &mut [u64], c: u64, command: u64) {
-    let block = next_block(
+// The cell's block after a dump but 111, counted from S.
+fn block_after(m: &[u64], c: u64, command: u64) -> u64 {
+    next_block(
         of_cell(m, c, 6),
         of_cell(m, c, 7),
         command,
         shape_value(m, 4),
-    );
+    )
+}
+
+// The data bin in the label of a dump but 111, with the block as it is after the dump's step.
+pub fn dump_bin(m: &[u64], k: Call) -> u64 {
+    data_bin(k.phase, shape_value(m, 4), block_after(m, k.cell, k.a))
+}
+
+// The cell's block moves, and the command becomes its last: of every accepted dump but 111.
+fn count_block(m: &mut [u64], c: u64, command: u64) {
+    let block = block_after(m, c, command);
     set_cell(&mut *m, c, 6, block);
     set_cell(m, c, 7, stored_command(command));
 }
 
-// The label, with the block as it is after the dump's step, and Open's stamp as Held's.
-fn hold(m: &mut [u64], k: Call) {
-    let bin = data_bin(k.phase, shape_value(m, 4), of_cell(m, k.cell, 6));
+// Where Open goes to Held: the label, and Open's stamp as Held's.
+fn hold(m: &mut [u64], k: Call, to: u64) {
+    if to != HELD {
+        return;
+    }
+    let bin = dump_bin(m, k);
     let stamp = of_cell(m, k.cell, 4);
     set_label(&mut *m, k.cell, k.a, k.b, bin);
     set_cell(m, k.cell, 5, stamp);
 }
 
+// The place that Open goes to: of 011 "Open becomes its set", a frame's; else Held, or the loss that is the answer.
+fn destination(command: u64, answer: u64) -> u64 {
+    if command == SPEED_DUMP {
+        return FRAME;
+    }
+    if answer == 0 { HELD } else { answer }
+}
+
 // "111: nothing. 100: Open goes to loss 1. 000 (save), 001 (add), 010 (last): if Held is occupied, Open goes to loss
-// 2; else Open and the label go to Held."
+// 2; else Open and the label go to Held." 011 "leaves Held as it is".
 fn dump(m: &mut [u64], k: Call, answer: u64) {
     if answer == 7 {
         return;
     }
+    let to = destination(k.a, answer);
+    hold(&mut *m, k, to);
     count_block(&mut *m, k.cell, k.a);
-    if answer == 0 {
-        hold(&mut *m, k);
-        close(&mut *m, k.cell, HELD);
-    } else {
-        close(&mut *m, k.cell, answer);
-    }
+    close(&mut *m, k.cell, to);
 }
 
 // "A bin's stamp is that of the integration that took it out of Free or replaced its set."

@@ -25,9 +25,13 @@ use test_lib_rules::call::EMIT;
 use test_lib_rules::call::INTEGRATE;
 use test_lib_rules::call::PAGE;
 use test_lib_rules::call::READING;
+use test_lib_rules::call::SPEED_DUMP;
 use test_lib_rules::call::TICK;
 use test_lib_rules::call::refusal;
+use test_lib_rules::frame_words;
 use test_lib_rules::page;
+use test_lib_tools::bytes::BINNED;
+use test_lib_tools::bytes::SPEED;
 use test_lib_tools::words::get;
 use test_lib_tools::words::less;
 use test_lib_tools::words::tail;
@@ -172,7 +176,8 @@ fn cells_bad(mem: &[u64], n: u64, b: u64, cells: u64, kind: u64) -> bool {
     bad
 }
 
-// The loss that a dump adds to, 0 where there is none, 7 for 111.
+// The loss that a dump adds to, 0 where there is none, 7 for 111. 011 "leaves Held as it is", so that no Held makes it
+// an overrun.
 fn dump_loss(cell: &[u64], command: u64) -> u64 {
     if command == 7 {
         return 7;
@@ -180,7 +185,11 @@ fn dump_loss(cell: &[u64], command: u64) -> u64 {
     if command == 4 {
         return 1;
     }
-    if get(cell, FLAG) == 1 { 2 } else { 0 }
+    if (command != SPEED_DUMP) & (get(cell, FLAG) == 1) {
+        2
+    } else {
+        0
+    }
 }
 
 // "A stored block outside S to S + M - 1 or an unknown last command is 11 in a dump": the command + 1 of 000, 001, 010
@@ -275,14 +284,19 @@ fn held_off(mem: &[u64], n: u64, b: u64, cells: u64) -> u64 {
 
 // "9: bin not Ready, 10: buffer shorter than a frame", or the frame's length.
 fn emit_says(state: u64, n: u64, bytes: u64) -> u64 {
-    let length = 34 + 8 * (n % 256);
     if state != 2 {
-        return 9;
-    }
-    if bytes < length {
-        10
+        9
     } else {
-        ACCEPTED + length
+        frame_words::says(n, BINNED, bytes)
+    }
+}
+
+// Of 011: "10 applies to it last", or the frame's length; of another command the loss.
+fn dump_says(cell: &[u64], n: u64, k: Call) -> u64 {
+    if k.a == SPEED_DUMP {
+        frame_words::says(n, SPEED, k.bytes)
+    } else {
+        wrapping_add_u64(ACCEPTED, dump_loss(cell, k.a))
     }
 }
 
@@ -300,7 +314,7 @@ fn integrate_says(cell: &[u64], n: u64, b: u64) -> u64 {
 fn answer(cell: &[u64], n: u64, b: u64, k: Call) -> u64 {
     let kind = k.kind;
     match kind {
-        DUMP => wrapping_add_u64(ACCEPTED, dump_loss(cell, k.a)),
+        DUMP => dump_says(cell, n, k),
         INTEGRATE => integrate_says(cell, n, b),
         EMIT => emit_says(get(cell, bin(n, number(b, k.a, k.b))), n, k.bytes),
         READING => ACCEPTED,

@@ -12,10 +12,12 @@ use test_lib_memory::map::cell_of;
 use test_lib_memory::map::loss;
 use test_lib_rules::call::ACCEPTED;
 use test_lib_rules::call::Call;
+use test_lib_rules::call::DUMP;
 use test_lib_rules::call::EMIT;
 use test_lib_rules::call::FORECAST;
 use test_lib_rules::call::PAGE;
 use test_lib_rules::call::READING;
+use test_lib_rules::call::frame_kind;
 use test_lib_tools::bytes::fill_pattern;
 use test_lib_tools::bytes::kept;
 use test_lib_tools::report::Tally;
@@ -26,26 +28,27 @@ use test_lib_tools::words::less;
 use test_lib_tools::words::tail;
 use test_lib_tools::words::times;
 
-// A tick in which every cell gets the bytes a and b; a dump; an integration.
+// A tick in which every cell gets the bytes a and b; an integration.
 fn moves(s: Shape, mem: &mut [u64], k: Call) -> u64 {
     let x = (k.a % 256) as u8;
     let y = (k.b % 256) as u8;
     ask::moves(s, mem, k, &[x, y, x, y, x, y])
 }
 
-// Is the frame or the page right; or, where the call is refused, is no byte of the buffer written?
+// Is the frame or the page right; or, where the call is refused or is a dump that writes no frame, is no byte of the
+// buffer written?
 fn buffer_right(s: Shape, old: &[u64], k: Call, out: &[u8], due: u64) -> bool {
-    if due < ACCEPTED {
-        return kept(out, 0);
+    if (due >= ACCEPTED) & (k.kind == PAGE) {
+        return page_right(s, old, out);
     }
-    if k.kind == PAGE {
-        page_right(s, old, out)
-    } else {
+    if (due >= ACCEPTED) & (frame_kind(k) != 0) {
         frame_right(s, old, k, out)
+    } else {
+        kept(out, 0)
     }
 }
 
-// An emission with its frame, or a page with its lines.
+// A dump or an emission with its frame, or a page with its lines.
 fn writes(s: Shape, mem: &mut [u64], old: &[u64], k: Call, due: u64) -> bool {
     let mut out = [0u8; 1300];
     fill_pattern(&mut out);
@@ -84,7 +87,7 @@ fn reads(s: Shape, mem: &[u64], k: Call, due: u64) -> bool {
 fn answers(s: Shape, mem: &mut [u64], old: &[u64], k: Call, due: u64) -> bool {
     let kind = k.kind;
     match kind {
-        EMIT | PAGE => writes(s, mem, old, k, due),
+        DUMP | EMIT | PAGE => writes(s, mem, old, k, due),
         READING => reads(s, mem, k, due),
         FORECAST => ask::forecast(s, mem, k) == due,
         _ => moves(s, mem, k) == due,

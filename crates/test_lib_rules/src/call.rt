@@ -2,6 +2,8 @@
 // the block and the data bin of a dump.
 use lta_spec::Shape;
 use std::num::wrapping_add_u64;
+use test_lib_tools::bytes::BINNED;
+use test_lib_tools::bytes::SPEED;
 use test_lib_tools::words::times;
 
 // An answer stands as 100 + its number, a refusal as its own.
@@ -22,11 +24,14 @@ pub const FORECAST: u64 = 5;
 
 pub const PAGE: u64 = 6;
 
+// Command 011 of a dump: a speed dump.
+pub const SPEED_DUMP: u64 = 3;
+
 pub struct Call {
     pub kind: u64,
     // Words of work memory lent.
     pub words: u64,
-    // Bytes lent: a tick's samples, or the buffer of an emission or a page.
+    // Bytes lent: a tick's samples, or the buffer of a dump, an emission or a page.
     pub bytes: u64,
     pub cell: u64,
     // A dump's command, an emission's bank, a reading's lag.
@@ -76,11 +81,11 @@ fn phase_wrong(s: Shape, phase: u64) -> bool {
     (phase >= s.bins) | (times(phase % 1024 + 1, s.blocks) > s.bins)
 }
 
-// "6: command 011, 101, 110 or above 111. 7: bank not 0 or 1, or the data bin rule broken", which "concerns only bank
-// and phase".
+// "6: command 011, 101, 110 or above 111", but "Refusal 6 no longer covers 011". "7: bank not 0 or 1, or the data bin
+// rule broken", which "concerns only bank and phase".
 fn dump_refusal(s: Shape, k: Call) -> u64 {
     let command = k.a;
-    if (command == 3) | (command == 5) | (command == 6) | (command > 7) {
+    if (command == 5) | (command == 6) | (command > 7) {
         return 6;
     }
     if (k.b > 1) | phase_wrong(s, k.phase) {
@@ -127,11 +132,26 @@ pub fn refusal(s: Shape, k: Call) -> u64 {
     }
 }
 
-// A cell's last command as docs/LAYOUT.md stores it: 0 for none, else the command + 1.
+// The kind of the frame that a call writes where it is accepted, and 0 where it writes none: an emission's, a speed
+// dump's.
+pub fn frame_kind(k: Call) -> u64 {
+    if k.kind == EMIT {
+        return BINNED;
+    }
+    if (k.kind == DUMP) & (k.a == SPEED_DUMP) {
+        SPEED
+    } else {
+        0
+    }
+}
+
+// A cell's last command as docs/LAYOUT.md stores it: 0 for none, else the command + 1. Of 011: "For the block counter
+// it counts as a 001".
 const NO_COMMAND: u64 = 0;
 
 pub fn stored_command(command: u64) -> u64 {
-    command % 8 + 1
+    let counted = if command == SPEED_DUMP { 1 } else { command };
+    counted % 8 + 1
 }
 
 // "It returns to S on 100, and on a 010 whose cell's last command before it was 000 or 001"; "A cell's first dump but

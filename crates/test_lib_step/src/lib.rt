@@ -17,10 +17,12 @@ use test_lib_numbers::memory::differ;
 use test_lib_numbers::pages::page_right;
 use test_lib_rules::call::ACCEPTED;
 use test_lib_rules::call::Call;
+use test_lib_rules::call::DUMP;
 use test_lib_rules::call::EMIT;
 use test_lib_rules::call::FORECAST;
 use test_lib_rules::call::PAGE;
 use test_lib_rules::call::READING;
+use test_lib_rules::call::frame_kind;
 use test_lib_rules::call::needed;
 use test_lib_rules::call::refusal;
 use test_lib_rules::history::IN_PHASE;
@@ -74,26 +76,27 @@ fn fill(m: &[u64], samples: &mut [u8]) {
     }
 }
 
-// A tick, a dump or an integration.
+// A tick or an integration.
 fn moves(mem: &mut [u64], m: &[u64], s: Shape, k: Call) -> u64 {
     let mut samples = [0u8; 40];
     fill(m, &mut samples);
     ask::moves(s, mem, k, &samples)
 }
 
-// Is the frame or the page right; or, where the call is refused, is no byte of the buffer written?
+// Is the frame or the page right; or, where the call is refused or is a dump that writes no frame, is no byte of the
+// buffer written?
 fn buffer_right(m: &[u64], k: Call, out: &[u8], due: u64) -> bool {
-    if due < ACCEPTED {
-        return kept(out, 0);
+    if (due >= ACCEPTED) & (k.kind == PAGE) {
+        return page_right(m, out);
     }
-    if k.kind == PAGE {
-        page_right(m, out)
+    if (due >= ACCEPTED) & (frame_kind(k) != 0) {
+        right(m, k, out)
     } else {
-        right(m, k.cell, k.a, k.b, out)
+        kept(out, 0)
     }
 }
 
-// An emission with its frame, or a page with its lines.
+// A dump or an emission with its frame, or a page with its lines.
 fn writes(mem: &mut [u64], m: &[u64], s: Shape, k: Call, due: u64) -> bool {
     let mut out = [0u8; 4200];
     fill_pattern(&mut out);
@@ -125,7 +128,7 @@ fn reads(mem: &[u64], m: &[u64], s: Shape, k: Call, due: u64) -> bool {
 fn answers(mem: &mut [u64], m: &[u64], s: Shape, k: Call, due: u64) -> bool {
     let kind = k.kind;
     match kind {
-        EMIT | PAGE => writes(mem, m, s, k, due),
+        DUMP | EMIT | PAGE => writes(mem, m, s, k, due),
         READING => reads(mem, m, s, k, due),
         FORECAST => ask::forecast(s, mem, k) == due,
         _ => moves(mem, m, s, k) == due,

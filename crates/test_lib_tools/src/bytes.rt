@@ -1,4 +1,4 @@
-// The test's own reading and writing of a frame's bytes, after document 01 and not after the code that is tested.
+// The test's own reading and writing of a frame's bytes, after the papers and not after the code that is tested.
 // Nothing here asks anything of its caller: past the end a byte reads as 0, and a store does nothing.
 
 // Byte i.
@@ -62,9 +62,14 @@ pub fn sum(s: &[u8], a: usize, e: usize) -> u32 {
     total
 }
 
-// "Length 34 + 8N bytes".
-pub fn length(n: u64) -> usize {
-    if n <= 200 { (34 + 8 * n) as usize } else { 34 }
+// The kinds of frames, W0 bits 0-2: of the accumulator, and a speed frame.
+pub const BINNED: u64 = 2;
+
+pub const SPEED: u64 = 3;
+
+// The header words: W0 to W6, and in a speed frame DATA_BIAS, which "stands between W6 and the lags".
+pub fn heads(kind: u64) -> usize {
+    if kind == SPEED { 8 } else { 7 }
 }
 
 // How many lag numbers a frame has.
@@ -72,9 +77,24 @@ pub fn twice(n: u64) -> usize {
     if n <= 200 { (2 * n) as usize } else { 0 }
 }
 
-// The number of the last word, behind seven header words and N pairs.
-pub fn last(n: u64) -> usize {
-    7 + twice(n) % 512
+// "Length 34 + 8N bytes"; of a speed frame "Its length is 38 + 8N".
+pub fn length(n: u64, kind: u64) -> usize {
+    let pairs = 4 * (twice(n) % 512);
+    if kind == SPEED {
+        38 + pairs
+    } else {
+        34 + pairs
+    }
+}
+
+// The number of the last word, behind the header words and N pairs.
+pub fn last(n: u64, kind: u64) -> usize {
+    heads(kind) % 16 + twice(n) % 512
+}
+
+// The byte with which the pairs begin, behind the mark and the header words.
+pub fn lags_at(kind: u64) -> usize {
+    2 + 4 * (heads(kind) % 16)
 }
 
 // "Two mark bytes 4Ch 54h".
@@ -83,14 +103,14 @@ pub fn marked(s: &[u8]) -> bool {
 }
 
 // "Last: sum of all words before it".
-pub fn summed(s: &[u8], n: u64) -> bool {
-    let k = last(n);
+pub fn summed(s: &[u8], n: u64, kind: u64) -> bool {
+    let k = last(n, kind);
     word(s, k) == sum(s, 0, k)
 }
 
 // Mark and last word of a frame, behind which nothing is written.
-pub fn framed(s: &[u8], n: u64) -> bool {
-    marked(s) & summed(s, n) & kept(s, length(n))
+pub fn framed(s: &[u8], n: u64, kind: u64) -> bool {
+    marked(s) & summed(s, n, kind) & kept(s, length(n, kind))
 }
 
 // The word of minus x, in two's complement.

@@ -19,9 +19,11 @@ use test_lib_rules::call::ACCEPTED;
 use test_lib_rules::call::Call;
 use test_lib_rules::call::DUMP;
 use test_lib_rules::call::INTEGRATE;
+use test_lib_rules::call::SPEED_DUMP;
 use test_lib_rules::call::needed;
 use test_lib_rules::call::shaped;
 use test_lib_rules::call::stored_command;
+use test_lib_tools::bytes::word;
 use test_lib_tools::report::Tally;
 use test_lib_tools::report::pick;
 use test_lib_tools::report::row;
@@ -93,11 +95,14 @@ fn far(i: u64) -> DumpCase {
     }
 }
 
-// Row i: a kept dump has the data bin in its label; where it is refused nothing has changed.
+// Row i, case i mod 28: a kept dump has the data bin in its label, and from row 28 on a speed dump in its frame; where
+// it is refused nothing has changed.
 pub fn data_bins(t: Tally, i: u64) -> Tally {
-    let r = if i < 16 { near(i) } else { far(i) };
+    let k = i % 28;
+    let r = if k < 16 { near(k) } else { far(k) };
     let s = shaped(1, 2, r.bins, r.blocks, r.start, 4, 0);
-    let so = dumps(s, 0, r.phase, r.block, stored_command(0), r.due);
+    let command = pick(i < 28, 0, SPEED_DUMP);
+    let so = dumps(s, command, r.phase, r.block, stored_command(0), r.due);
     row(t, so, r.due > 1000)
 }
 
@@ -110,7 +115,7 @@ fn digit(digits: u64, i: u64) -> u64 {
 // 010 and 100), one for each block before it.
 fn block_due(command: u64, i: u64) -> u64 {
     match command {
-        0 | 1 => digit(0x021_021_021_021_000, i),
+        0 | 1 | SPEED_DUMP => digit(0x021_021_021_021_000, i),
         2 => digit(0x021_021_000_000_000, i),
         4 => 0,
         _ => i % 3,
@@ -119,7 +124,7 @@ fn block_due(command: u64, i: u64) -> u64 {
 
 // Row r: command r div 15 of those that are accepted, last command r div 3 mod 5, block r mod 3.
 pub fn blocks(t: Tally, r: u64) -> Tally {
-    let command = digit(0x74210, r / 15);
+    let command = digit(0x743210, r / 15);
     let last = digit(0x53210, r / 3 % 5);
     let s = shaped(1, 2, 3, 3, 5, 4, 0);
     let so = dumps(s, command, 0, r % 3, last, block_due(command, r % 15));
@@ -130,21 +135,32 @@ pub fn blocks(t: Tally, r: u64) -> Tally {
 fn dumps(s: Shape, command: u64, phase: u64, block: u64, last: u64, due: u64) -> bool {
     let k = dump_of(needed(s), command, phase);
     let mut mem = [0u64; 20000];
+    let mut out = [0u8; 54];
     put_block(&mut mem, block, last);
     let before = digest(&mem);
-    let told = ask::moves(s, &mut mem, k, &[0]);
+    let told = ask::writes(s, &mut mem, k, &mut out);
     if due > 1000 {
         return (told == due - 1000) & (digest(&mem) == before);
     }
-    counted(&mem, told, less(due, times(phase, s.blocks)), due)
-        & ((told == ACCEPTED) == (command < 4))
+    let block_due = less(due, times(phase, s.blocks));
+    (told == answer(command)) & counted(&mem, &out, command, block_due, due)
+}
+
+// What a dump says where Held is unoccupied: kept, the length of a speed frame of N = 2, loss 1, or 7.
+fn answer(command: u64) -> u64 {
+    match command {
+        SPEED_DUMP => ACCEPTED + 54,
+        4 => ACCEPTED + 1,
+        7 => ACCEPTED + 7,
+        _ => ACCEPTED,
+    }
 }
 
 fn dump_of(words: u64, command: u64, phase: u64) -> Call {
     Call {
         kind: DUMP,
         words: words,
-        bytes: 0,
+        bytes: pick(command == SPEED_DUMP, 54, 0),
         cell: 0,
         a: command,
         b: 1,
@@ -158,10 +174,19 @@ fn put_block(mem: &mut [u64], block: u64, last: u64) {
     put(mem, 1 + LAST_COMMAND, last);
 }
 
-// Is the block as it is due, and the data bin in the label of a dump that is kept?
-fn counted(mem: &[u64], told: u64, block: u64, bin: u64) -> bool {
-    let labelled = (told != ACCEPTED) | (get(mem, 1 + BIN) == bin);
-    (told >= ACCEPTED) & labelled & (get(mem, 1 + BLOCK) == block)
+// The data bin in the label of a dump that is kept, or in W1 of a speed frame.
+fn told_bin(mem: &[u64], out: &[u8], command: u64) -> u64 {
+    if command == SPEED_DUMP {
+        (word(out, 1) as u64 >> 16) % 32768
+    } else {
+        get(mem, 1 + BIN)
+    }
+}
+
+// Is the block as it is due, and the data bin where the dump tells it?
+fn counted(mem: &[u64], out: &[u8], command: u64, block: u64, bin: u64) -> bool {
+    let labelled = (command > 3) | (told_bin(mem, out, command) == bin);
+    labelled & (get(mem, 1 + BLOCK) == block)
 }
 
 // The ticks of a bin and of Held: six pairs, of which the second, fourth and sixth pass 16,777,215 by one.
@@ -218,7 +243,7 @@ fn put_set(mem: &mut [u64], at: u64, ticks: u64) {
 }
 
 // Memory with such a row.
-fn with_set(old: [u64; 384], at: u64, ticks: u64) -> [u64; 384] {
+pub fn with_set(old: [u64; 384], at: u64, ticks: u64) -> [u64; 384] {
     let mut mem = old;
     put_set(&mut mem, at, ticks);
     mem

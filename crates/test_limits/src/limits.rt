@@ -11,6 +11,7 @@ use test_lib_rules::call::ACCEPTED;
 use test_lib_rules::call::Call;
 use test_lib_rules::call::DUMP;
 use test_lib_rules::call::PAGE;
+use test_lib_rules::call::SPEED_DUMP;
 use test_lib_rules::call::TICK;
 use test_lib_rules::call::needed;
 use test_lib_rules::call::shaped;
@@ -218,13 +219,23 @@ pub fn shapes(t: Tally, i: u64) -> Tally {
     }
 }
 
+// The bytes lent: two cells' samples, a speed frame's, a page's, a frame's.
+fn lent(kind: u64) -> u64 {
+    match kind {
+        TICK => 4,
+        DUMP => 54,
+        PAGE => 533,
+        _ => 50,
+    }
+}
+
 // A call on the base memory of N = 2. A dump's command and bank, an emission's bank and bin, a reading's lag and loss
 // are chosen by `a` and `b`.
 pub fn plain(kind: u64, cell: u64, a: u64, b: u64, phase: u64) -> Call {
     Call {
         kind: kind,
         words: needed(shape(2)),
-        bytes: pick(kind == TICK, 4, pick(kind == PAGE, 533, 50)),
+        bytes: lent(kind),
         cell: cell,
         a: a,
         b: b,
@@ -251,8 +262,8 @@ const ARGUMENTS: [u64; 14] = [
 ];
 
 // Value v in argument p of a call, the others being right.
-fn with(kind: u64, p: u64, v: u64) -> Call {
-    let first = pick(kind == DUMP, 2, 1);
+fn with(kind: u64, command: u64, p: u64, v: u64) -> Call {
+    let first = pick(kind == DUMP, command, 1);
     let k = plain(kind, 1, first, 1, 0);
     Call {
         kind: kind,
@@ -265,12 +276,14 @@ fn with(kind: u64, p: u64, v: u64) -> Call {
     }
 }
 
-// Row r: kind r div 84, argument r div 14 mod 6, value r mod 14. The fifth is the length of memory, where a length
-// that the test cannot lend is cut to one that it can; the sixth the bytes lent.
+// Row r: kind r div 84, a speed dump behind the others; argument r div 14 mod 6, value r mod 14. The fifth is the
+// length of memory, where a length that the test cannot lend is cut to one that it can; the sixth the bytes lent.
 pub fn arguments(t: Tally, r: u64) -> Tally {
     let p = r / 14 % 6;
     let v = get(&ARGUMENTS, r % 14);
-    let k = with(r / 84 % 6, p, pick(p > 3, v % 512 % 300, v));
+    let kind = pick(r < 504, r / 84, DUMP);
+    let command = pick(r < 504, 2, SPEED_DUMP);
+    let k = with(kind, command, p, pick(p > 3, v % 512 % 300, v));
     let old = built(2, variant(r / 7, 1, 2, 0), needed(shape(2)), 0, NOW);
     modelled(t, shape(2), old, k)
 }

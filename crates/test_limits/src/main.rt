@@ -2,6 +2,7 @@
 // written in the rows, or decided by test_lib_memory.
 mod binning;
 mod limits;
+mod speed;
 
 use test_lib_tools::report::Tally;
 use test_lib_tools::report::line;
@@ -9,7 +10,7 @@ use test_lib_tools::report::verdict;
 use test_lib_tools::words::get;
 
 // How many rows a group has; each may count as some.
-const ROWS: [u64; 5] = [60, 28, 75, 504, 18];
+const ROWS: [u64; 6] = [60, 56, 90, 588, 18, 36];
 
 // Row i of group g.
 fn one(t: Tally, g: u64, i: u64) -> Tally {
@@ -18,7 +19,8 @@ fn one(t: Tally, g: u64, i: u64) -> Tally {
         1 => binning::data_bins(t, i),
         2 => binning::blocks(t, i),
         3 => limits::arguments(t, i),
-        _ => binning::wide(t, i),
+        4 => binning::wide(t, i),
+        _ => speed::row(t, i),
     }
 }
 
@@ -35,7 +37,7 @@ fn rows(g: u64) -> Tally {
 
 // The line of group g, whose name is here in eight bytes. The shapes have N of their own, the others N = 2.
 fn shown(failed: u64, g: u64) -> u64 {
-    let names = b"shapes  data binblocks  argumentwide    ";
+    let names = b"shapes  data binblocks  argumentwide    speed   ";
     line(failed, 2, names, g, rows(g))
 }
 
@@ -44,5 +46,6 @@ fn main() {
     let bins = shown(shapes, 1);
     let blocks = shown(bins, 2);
     let arguments = shown(blocks, 3);
-    verdict(shown(arguments, 4));
+    let wide = shown(arguments, 4);
+    verdict(shown(wide, 5));
 }

@@ -1,5 +1,6 @@
 // "Where several apply, the order stands after each group": each call with every choice of the defects that it may be
-// told of. The first in the papers' order is due. A dump comes three times, with another word damaged; a page twice.
+// told of. The first in the papers' order is due. A dump comes three times, with another word damaged, and once more
+// with command 011; a page twice.
 use lta_spec::Shape;
 use std::num::wrapping_add_u64;
 use test_lib_memory::base::BINS;
@@ -24,6 +25,7 @@ use test_lib_rules::call::EMIT;
 use test_lib_rules::call::INTEGRATE;
 use test_lib_rules::call::PAGE;
 use test_lib_rules::call::READING;
+use test_lib_rules::call::SPEED_DUMP;
 use test_lib_rules::call::TICK;
 use test_lib_rules::call::needed;
 use test_lib_tools::report::Tally;
@@ -32,9 +34,13 @@ use test_lib_tools::words::put;
 
 const LAGS: u64 = 2;
 
-// The orders of a tick, a dump, an integration, an emission, a reading, a forecast and a page, as hexadecimal digits,
-// the first lowest: "Then 11", "Order 5, 6, 7, 11", "Order 5, 11, then 8", and so on; "by 10 after 1, 2 and 11".
-const ORDER: [u64; 7] = [
+// A dump with command 011, which has an order of its own.
+const SPEED: u64 = 7;
+
+// The orders of a tick, a dump, an integration, an emission, a reading, a forecast, a page and a speed dump, as
+// hexadecimal digits, the first lowest: "Then 11", "Order 5, 6, 7, 11", "Order 5, 11, then 8", and so on; "by 10 after
+// 1, 2 and 11"; "Refusal 6 no longer covers 011; 10 applies to it last".
+const ORDER: [u64; 8] = [
     0xb4321,
     0xb76521,
     0x8b521,
@@ -42,6 +48,7 @@ const ORDER: [u64; 7] = [
     0xbc521,
     0xb521,
     0xab21,
+    0xab7521,
 ];
 
 // Number j of a call's order, 0 past its end.
@@ -98,19 +105,22 @@ fn lent(kind: u64, mask: u64) -> Shape {
     }
 }
 
-// 3: a byte less. 10: a byte less than a frame, or than a page.
+// 3: a byte less. 10: a byte less than a frame, or than a page; a dump but 011 is lent no byte, and never told of it.
 fn bytes(kind: u64, mask: u64) -> u64 {
     match kind {
         TICK => choose(kind, mask, 3, 3, 4),
+        DUMP => 0,
         PAGE => choose(kind, mask, 10, 532, 533),
+        SPEED => choose(kind, mask, 10, 53, 54),
         _ => choose(kind, mask, 10, 49, 50),
     }
 }
 
-// 6: command 011. 12: lag N.
+// 6: command 101. 12: lag N.
 fn argument(kind: u64, mask: u64) -> u64 {
     match kind {
-        DUMP => choose(kind, mask, 6, 3, 0),
+        DUMP => choose(kind, mask, 6, 5, 0),
+        SPEED => SPEED_DUMP,
         READING => choose(kind, mask, 12, LAGS, 1),
         _ => 1,
     }
@@ -119,7 +129,7 @@ fn argument(kind: u64, mask: u64) -> u64 {
 // 7: bank 2, data bin B.
 fn second(kind: u64, mask: u64) -> u64 {
     match kind {
-        DUMP => choose(kind, mask, 7, 2, 1),
+        DUMP | SPEED => choose(kind, mask, 7, 2, 1),
         EMIT => choose(kind, mask, 7, BINS, 0),
         _ => 4,
     }
@@ -129,7 +139,7 @@ fn second(kind: u64, mask: u64) -> u64 {
 fn call(kind: u64, mask: u64) -> Call {
     let words = needed(shape(LAGS)) % 4294967296;
     Call {
-        kind: kind,
+        kind: if kind == SPEED { DUMP } else { kind },
         words: choose(kind, mask, 2, words + 1, words),
         bytes: bytes(kind, mask),
         cell: choose(kind, mask, 5, 2, 1),
@@ -142,23 +152,23 @@ fn call(kind: u64, mask: u64) -> Call {
 // The kind of call of group g.
 fn kind_of(g: u64) -> u64 {
     match g {
-        7 | 8 => DUMP,
-        9 => PAGE,
+        8 | 9 => DUMP,
+        10 => PAGE,
         _ => g,
     }
 }
 
 // The word of the last cell that 11 is told of in group g: a register entry, Open's stamp, Held's, the bin's, the
-// ticks of a loss, the current block, the last command.
+// ticks of a loss, the current block, the last command. A speed dump is told of Held, which it leaves as it is.
 fn damaged(g: u64) -> u64 {
     match g {
         TICK => register(LAGS, 1),
-        INTEGRATE => HELD_STAMP,
+        INTEGRATE | SPEED => HELD_STAMP,
         EMIT => wrapping_add_u64(bin(LAGS, BINS), 1),
         READING => row(LAGS, loss(6)),
-        PAGE | 9 => row(LAGS, loss(1)),
-        7 => BLOCK,
-        8 => LAST_COMMAND,
+        PAGE | 10 => row(LAGS, loss(1)),
+        8 => BLOCK,
+        9 => LAST_COMMAND,
         _ => OPEN_STAMP,
     }
 }
@@ -166,7 +176,7 @@ fn damaged(g: u64) -> u64 {
 // What stands there: past every limit, or, in the second group of pages, ticks within their own, where the six pass
 // theirs together.
 fn value(g: u64) -> u64 {
-    if g == 9 { 2147483648 } else { 2147483649 }
+    if g == 10 { 2147483648 } else { 2147483649 }
 }
 
 // Memory of a Ready bin, and of a Held that is occupied and empty; 4: t is 2,147,483,648; 9: a bin that is Filling;
@@ -193,7 +203,7 @@ fn due(told: u64, s: Shape, old: [u64; 384], k: Call) -> u64 {
 
 // Row r: group r div 128, mask r mod 128.
 pub fn refusals(t: Tally, r: u64) -> Tally {
-    let g = r / 128 % 10;
+    let g = r / 128 % 11;
     let kind = kind_of(g);
     let mask = r % 128;
     let old = memory(kind, mask, damaged(g), value(g));

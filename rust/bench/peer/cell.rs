@@ -2,11 +2,11 @@
 use std::array::from_fn;
 use std::ops::Range;
 
-use lta::{Loss, Moved};
+use lta::Loss;
 
 use super::layout::{Layout, BANK, BLOCK, COMMAND, DATA_BIN, HELD_STAMP, LAST_COMMAND, OCCUPIED, OPEN_STAMP};
 use super::row::{add_tick, move_row, register_ok, row_ok, shift};
-use super::{ADD, BIN_LIMIT, DISCARD, FILLING, FREE, IDLE, LAST, OPEN_LIMIT, READY, RUN_LIMIT, SAVE};
+use super::{ADD, BIN_LIMIT, DISCARD, FILLING, FREE, IDLE, LAST, OPEN_LIMIT, READY, RUN_LIMIT, SAVE, SPEED};
 
 /// The words of a cell, to be tested.
 #[derive(Clone, Copy)]
@@ -98,7 +98,7 @@ impl CellRef<'_> {
         }
         let open = self.ticks(self.layout.open());
         match command {
-            IDLE => true,
+            IDLE | SPEED => true,
             DISCARD => self.loss_fits(Loss::Ordered, open),
             _ => !self.occupied() || self.loss_fits(Loss::Overrun, open),
         }
@@ -148,9 +148,9 @@ impl Cell<'_> {
         move_row(from, to);
     }
 
-    fn lose(&mut self, row: Range<usize>, loss: Loss) -> Moved {
+    fn lose(&mut self, row: Range<usize>, loss: Loss) -> u32 {
         self.move_row(row, self.layout.loss(loss.number() as usize - 1));
-        Moved::Lost(loss)
+        loss.number()
     }
 
     /// Answers whether the cell is held off.
@@ -175,9 +175,21 @@ impl Cell<'_> {
         self.words[LAST_COMMAND] = command as i64 + 1;
     }
 
-    pub fn dump(&mut self, t: i64, command: u64, bank: u64, phase: u64) -> Moved {
+    /// The data bin that a dump names, after the block's step.
+    fn data_bin(&self, phase: u64) -> i64 {
+        phase as i64 * self.layout.blocks + self.words[BLOCK]
+    }
+
+    /// A speed dump but for its frame: the data bin and the stamp that the frame has.
+    pub fn open_leaves(&mut self, t: i64, phase: u64) -> (u64, u64) {
+        self.step_block(ADD);
+        let stamp = std::mem::replace(&mut self.words[OPEN_STAMP], t);
+        (self.data_bin(phase) as u64, stamp as u64)
+    }
+
+    pub fn dump(&mut self, t: i64, command: u64, bank: u64, phase: u64) -> u32 {
         if command == IDLE {
-            return Moved::Idle;
+            return 7;
         }
         self.step_block(command);
         let stamp = std::mem::replace(&mut self.words[OPEN_STAMP], t);
@@ -190,13 +202,13 @@ impl Cell<'_> {
         self.words[OCCUPIED] = 1;
         self.words[COMMAND] = command as i64;
         self.words[BANK] = bank as i64;
-        self.words[DATA_BIN] = phase as i64 * self.layout.blocks + self.words[BLOCK];
+        self.words[DATA_BIN] = self.data_bin(phase);
         self.words[HELD_STAMP] = stamp;
         self.move_row(self.layout.open(), self.layout.held());
-        Moved::Kept
+        0
     }
 
-    pub fn integrate(&mut self) -> Moved {
+    pub fn integrate(&mut self) -> u32 {
         let layout = self.layout;
         let view = CellRef { layout, words: self.words };
         let (bin, wide) = (view.held_bin(), view.wide());
@@ -207,9 +219,9 @@ impl Cell<'_> {
             return self.lose(layout.held(), Loss::Full);
         }
         self.words[layout.state(bin)] = if command == LAST { READY } else { FILLING };
-        let mut moved = Moved::Kept;
+        let mut answer = 0;
         if state == FILLING && command == SAVE {
-            moved = self.lose(layout.bin_row(bin), Loss::Replaced);
+            answer = self.lose(layout.bin_row(bin), Loss::Replaced);
         } else if state == FILLING && wide {
             return self.lose(layout.held(), Loss::Wide);
         }
@@ -217,6 +229,6 @@ impl Cell<'_> {
             self.words[layout.bin_stamp(bin)] = self.words[HELD_STAMP];
         }
         self.move_row(layout.held(), layout.bin_row(bin));
-        moved
+        answer
     }
 }

@@ -1,6 +1,6 @@
 //! Altered work memory: words changed to values near their limits. Refusal 11 is given exactly by the clauses of
-//! document 01 and requests 2026-01 and 2026-03 on the parts that the call tests, and what is bad elsewhere is kept as
-//! it is.
+//! document 01 and requests 2026-01, 2026-03 and 2026-04 on the parts that the call tests, and what is bad elsewhere is
+//! kept as it is.
 use crate::call::{Call, Reply, Shape};
 use crate::damage;
 use crate::driver::{fresh, perform};
@@ -15,7 +15,7 @@ const RUNS: u64 = 4_000;
 const ALTERATIONS: usize = 250;
 
 /// A value for a word, at or next to a limit of its kind.
-fn near_limit(random: &mut Random, kind: Kind, mem: &[u64], shape: &Shape) -> u64 {
+pub fn near_limit(random: &mut Random, kind: Kind, mem: &[u64], shape: &Shape) -> u64 {
     let t = mem[0];
     let far = random.extreme();
     let Shape { bins, blocks, .. } = *shape;
@@ -124,7 +124,7 @@ fn altered_memory() {
     }
     tally.met("tick", &["accepted", "held off", "refusal 4"]);
     tally.met("integrate", &["answer 0", "answer 3", "answer 4", "answer 5", "refusal 8"]);
-    tally.met("dump", &["answer 0", "answer 1", "answer 2", "answer 7"]);
+    tally.met("dump", &["answer 0", "answer 1", "answer 2", "answer 7", "a frame", "refusal 10"]);
     tally.met("emit", &["accepted", "refusal 9"]);
     tally.met("page", &["accepted", "refusal 10"]);
 }
@@ -140,7 +140,7 @@ fn set_ticks(mem: &mut [u64], kinds: &[Kind], limit: u64, nth: usize, ticks: u64
 fn a_loss_at_its_limit() {
     let shape = Shape { cells: 1, lags: 2, bins: 1, blocks: 1, start: 0, rate: 1, second: 0 };
     let kinds = layout::kinds(shape);
-    let dump = |command| Call::Dump { cell: 0, command, bank: 0, phase: 0 };
+    let dump = |command| Call::Dump { cell: 0, command, bank: 0, phase: 0, room: 0 };
     let integrate = Call::Integrate { cell: 0 };
     let tick = Call::Tick { samples: vec![0; 2] };
     // The call, the ticks of Open, Held and bin, Held's flag and command, the bin's state, and the loss with its part.
@@ -172,7 +172,7 @@ fn a_loss_at_its_limit() {
 /// A run of two cells on which every kind of call on cell 0 is accepted: a set is held, and a bin Ready.
 fn accepting(shape: &Shape) -> Vec<u64> {
     let mut mem = fresh(shape);
-    let dump = Call::Dump { cell: 0, command: 0b010, bank: 0, phase: 0 };
+    let dump = Call::Dump { cell: 0, command: 0b010, bank: 0, phase: 0, room: 0 };
     let tick = Call::Tick { samples: vec![0x07; 4] };
     for call in [&tick, &dump, &Call::Integrate { cell: 0 }, &tick, &dump, &tick] {
         perform(&shape.numbers(), &mut mem, call);
@@ -185,11 +185,11 @@ fn with_word(shape: &Shape, at: usize, word: u64, bad: bool) {
     let mut sound = accepting(shape);
     let mut altered = sound.clone();
     altered[at] = word;
-    for command in [0b000, 0b001, 0b010, 0b100, 0b111] {
+    for command in [0b000, 0b001, 0b010, 0b011, 0b100, 0b111] {
         let mut mem = altered.clone();
-        let dump = |cell| Call::Dump { cell, command, bank: 0, phase: 0 };
+        let dump = |cell| Call::Dump { cell, command, bank: 0, phase: 0, room: shape.speed_length() };
         let other = perform(&shape.numbers(), &mut mem, &dump(1));
-        assert!(matches!(other, Reply::Number(_)), "{command:03b} of another cell: {other:?}");
+        assert!(!matches!(other, Reply::Refused(_)), "{command:03b} of another cell: {other:?}");
         let before = mem.clone();
         let reply = perform(&shape.numbers(), &mut mem, &dump(0));
         assert_eq!(reply == Reply::Refused(11), bad, "{command:03b}, word {at} as {word}: {reply:?}");

@@ -1,4 +1,5 @@
 //! The calls on a run and their replies.
+use crate::frame;
 
 /// The seven numbers C, N, B, M, S, R and Z.
 #[derive(Clone, Copy, Debug, PartialEq, Eq)]
@@ -17,8 +18,14 @@ impl Shape {
         [self.cells, self.lags, self.bins, self.blocks, self.start, self.rate, self.second]
     }
 
+    /// The bytes of the frame of a bin.
     pub fn frame_length(&self) -> usize {
-        34 + 8 * self.lags as usize
+        frame::length(frame::ACCUMULATOR, self.lags)
+    }
+
+    /// The bytes of the frame of a speed dump.
+    pub fn speed_length(&self) -> usize {
+        frame::length(frame::SPEED, self.lags)
     }
 
     pub fn page_length(&self) -> usize {
@@ -35,7 +42,7 @@ impl Shape {
 #[derive(Clone, Debug)]
 pub enum Call {
     Tick { samples: Vec<u8> },
-    Dump { cell: u64, command: u64, bank: u64, phase: u64 },
+    Dump { cell: u64, command: u64, bank: u64, phase: u64, room: usize },
     Integrate { cell: u64 },
     Emit { cell: u64, bank: u64, bin: u64, room: usize },
     Reading { cell: u64, lag: u64, loss: u64, room: [usize; 2] },

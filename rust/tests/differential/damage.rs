@@ -35,7 +35,7 @@ fn label_bad(cell: &Cell, bins: u64) -> bool {
     cell.held.command > LAST || cell.held.bank > 1 || cell.held.bin >= bins
 }
 
-/// The current block or the last command.
+/// The current block or the last command, which is kept as 001 where it was 011.
 fn block_bad(cell: &Cell, shape: &Shape) -> bool {
     !(shape.start..shape.start + shape.blocks).contains(&cell.block)
         || cell.last.is_some_and(|command| !matches!(command, SAVE..=LAST | DISCARD))
@@ -58,6 +58,7 @@ fn tick_finds(cell: &Cell, t: u64) -> bool {
     registers_bad(cell) || open_bad(cell, t) || losses_bad(cell) || (full && passes(&cell.losses[5], 1))
 }
 
+/// 011 and 111 add to no loss, so that none can be too full for them.
 fn dump_finds(cell: &Cell, t: u64, shape: &Shape, command: u64) -> bool {
     if open_bad(cell, t) || held_bad(cell, t) || label_bad(cell, shape.bins) || losses_bad(cell) {
         return true;

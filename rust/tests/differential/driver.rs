@@ -2,7 +2,7 @@
 use lta::ffi;
 
 use crate::call::{Call, Reply, Shape};
-use crate::rules::words_needed;
+use crate::rules::{words_needed, SPEED};
 
 /// What stands in lent memory before a call that should write there.
 const LEFT: u8 = 0xa5;
@@ -37,6 +37,18 @@ fn emit(shape: &[u64], mem: &mut [u64], (cell, bank, bin): (u64, u64, u64), room
     frame.map_or_else(Reply::Refused, Reply::Frame)
 }
 
+/// A speed dump writes in the buffer that is lent with it, and no other command does.
+fn dump(shape: &[u64], mem: &mut [u64], [cell, command, bank, phase]: [u64; 4], room: usize) -> Reply {
+    if command == SPEED {
+        let frame = written(room, |out| ffi::dump(shape, mem, cell, command, bank, phase, out));
+        return frame.map_or_else(Reply::Refused, Reply::Frame);
+    }
+    let mut out = vec![LEFT; room];
+    let reply = number(ffi::dump(shape, mem, cell, command, bank, phase, &mut out));
+    assert!(out.iter().all(|byte| *byte == LEFT), "bytes written by {command:03b}");
+    reply
+}
+
 fn page(shape: &[u64], mem: &[u64], room: usize) -> Reply {
     written(room, |out| ffi::page(shape, mem, out)).map_or_else(Reply::Refused, Reply::Page)
 }
@@ -61,8 +73,8 @@ fn reading(shape: &[u64], mem: &[u64], (cell, lag, loss): (u64, u64, u64), room:
 pub fn perform(shape: &[u64], mem: &mut [u64], call: &Call) -> Reply {
     match *call {
         Call::Tick { ref samples } => number(ffi::tick(shape, mem, samples)),
-        Call::Dump { cell, command, bank, phase } => {
-            number(ffi::dump(shape, mem, cell, command, bank, phase))
+        Call::Dump { cell, command, bank, phase, room } => {
+            dump(shape, mem, [cell, command, bank, phase], room)
         }
         Call::Integrate { cell } => number(ffi::integrate(shape, mem, cell)),
         Call::Emit { cell, bank, bin, room } => emit(shape, mem, (cell, bank, bin), room),

@@ -79,11 +79,11 @@ impl Calls {
         all.met("tick", &["accepted", "held off", "refusal 1", "refusal 2", "refusal 3", "refusal 4"]);
         all.met("page", &["accepted", "refusal 1", "refusal 2", "refusal 10"]);
         own.met("tick", &["joins", "joins, another held off", "held off", "held off, another held off"]);
-        own.met("dump", &["answer 7", "refusal 6", "refusal 7"]);
+        own.met("dump", &["answer 7", "refusal 6", "refusal 7", "refusal 10"]);
         own.met("integrate", &["answer 0", "answer 3", "answer 4", "refusal 8"]);
         own.met("emit", &["accepted", "refusal 7", "refusal 9", "refusal 10"]);
         own.met("reading", &["accepted", "refusal 10", "refusal 12"]);
-        others.met("dump", &["answer 0", "answer 1", "answer 2", "refusal 5"]);
+        others.met("dump", &["answer 0", "answer 1", "answer 2", "a frame", "refusal 5"]);
         others.met("integrate", &["answer 0", "refusal 5"]);
         others.met("emit", &["accepted"]);
     }

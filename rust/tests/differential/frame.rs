@@ -1,4 +1,5 @@
-//! The frame by document 01: its bytes from fields and lags, and what reader and normalising call say of bytes.
+//! The frame by document 01 and the speed frame by request 2026-04: their bytes from fields and lags, and what reader
+//! and normalising call say of bytes.
 use crate::call::Shape;
 use crate::rules::{bad_lags, BIN_LIMIT, PEAK};
 use crate::signed::Row;
@@ -6,7 +7,32 @@ use crate::signed::Row;
 /// kind, cell, block, bin, bank, ticks, centre, edge, second, offset.
 pub type Fields = [u32; 10];
 
+/// The kinds, as bits 0-2 of W0 name them: the frame of a bin, and that of a speed dump.
+pub const ACCUMULATOR: u32 = 2;
+pub const SPEED: u32 = 3;
+
 const MARK: [u8; 2] = [0x4c, 0x54];
+
+/// The bytes of a frame of this kind.
+pub fn length(kind: u32, lags: u64) -> usize {
+    let fixed = if kind == SPEED { 38 } else { 34 };
+    fixed + 8 * lags as usize
+}
+
+/// The kind whose frames of so many lags have so many bytes.
+pub fn kind_of(lags: u64, bytes: usize) -> Option<u32> {
+    [ACCUMULATOR, SPEED].into_iter().find(|kind| length(*kind, lags) == bytes)
+}
+
+/// Where the lag part of a frame of this kind begins: behind the mark, W0 to W6 and the DATA_BIAS of a speed frame.
+pub fn lags_from(kind: u32) -> usize {
+    2 + 4 * (7 + usize::from(kind == SPEED))
+}
+
+/// What DATA_BIAS is beside so many ticks.
+pub fn bias(ticks: u32) -> u32 {
+    (PEAK * u64::from(ticks)) as u32
+}
 
 /// The header words W0 to W6, where each field fits its bits.
 fn header([kind, cell, block, bin, bank, ticks, centre, edge, second, offset]: Fields) -> [u32; 7] {
@@ -26,22 +52,25 @@ pub fn sealed(words: &[u32]) -> Vec<u8> {
 }
 
 pub fn bytes_of(fields: Fields, numbers: &[i32]) -> Vec<u8> {
+    let [kind, .., ticks, _, _, _, _] = fields;
     let lags = numbers.iter().map(|number| *number as u32);
-    let words: Vec<u32> = header(fields).into_iter().chain(lags).collect();
+    let between = (kind == SPEED).then(|| bias(ticks));
+    let words: Vec<u32> = header(fields).into_iter().chain(between).chain(lags).collect();
     sealed(&words)
 }
 
-/// The frame that an emission makes of a bin.
-pub fn of_bin(shape: &Shape, cell: u64, bank: u64, bin: u64, stamp: u64, row: &Row) -> Vec<u8> {
-    let block = shape.start + bin % shape.blocks;
-    let second = shape.second + stamp / shape.rate;
-    let fields = [2, cell, block, bin, bank, row.ticks, row.centre, row.edge, second, stamp % shape.rate];
+/// The frame that an emission makes of a bin, or a speed dump of Open.
+pub fn of_place(kind: u32, shape: &Shape, label: [u64; 3], stamp: u64, row: &Row) -> Vec<u8> {
+    let [cell, bank, bin] = label;
+    let (kind, block) = (u64::from(kind), shape.start + bin % shape.blocks);
+    let (second, offset) = (shape.second + stamp / shape.rate, stamp % shape.rate);
+    let fields = [kind, cell, block, bin, bank, row.ticks, row.centre, row.edge, second, offset];
     let numbers: Vec<i32> = row.sums.iter().map(|sum| i32::try_from(*sum).unwrap()).collect();
     bytes_of(fields.map(|field| u32::try_from(field).unwrap()), &numbers)
 }
 
 fn breaks_field_rule([kind, cell, block, bin, bank, ticks, centre, edge, _, offset]: Fields) -> bool {
-    kind != 2
+    ![ACCUMULATOR, SPEED].contains(&kind)
         || cell > 15
         || block > 255
         || bin > 999
@@ -82,14 +111,14 @@ fn fields_of(words: &[u32]) -> Fields {
     ]
 }
 
-/// The fields of a frame with its lag numbers, or the number of the refusal: 1, 13, 14, 15, 16.
+/// The fields of a frame with its lag numbers, or the number of the refusal: 1, 13, 14, 15, 16, 18.
 pub fn read(lags: u64, bytes: &[u8]) -> Result<(Fields, Vec<i32>), u32> {
     if bad_lags(lags) {
         return Err(1);
     }
-    if bytes.len() as u64 != 34 + 8 * lags {
+    let Some(kind) = kind_of(lags, bytes.len()) else {
         return Err(13);
-    }
+    };
     if bytes[..2] != MARK {
         return Err(14);
     }
@@ -100,10 +129,14 @@ pub fn read(lags: u64, bytes: &[u8]) -> Result<(Fields, Vec<i32>), u32> {
         return Err(15);
     }
     let fields = fields_of(before);
-    let numbers: Vec<i32> = before[7..].iter().map(|word| *word as i32).collect();
-    let wrong = fixed_bits_wrong(before) || breaks_field_rule(fields);
+    let (head, pairs) = before.split_at(before.len() - 2 * lags as usize);
+    let numbers: Vec<i32> = pairs.iter().map(|word| *word as i32).collect();
+    let wrong = fixed_bits_wrong(head) || fields[0] != kind || breaks_field_rule(fields);
     if wrong || numbers.iter().any(|number| beyond(fields[5], *number)) {
         return Err(16);
+    }
+    if kind == SPEED && head[7] != bias(fields[5]) {
+        return Err(18);
     }
     Ok((fields, numbers))
 }
@@ -122,7 +155,7 @@ pub fn write(lags: u64, fields: &[u32], numbers: &[i32], room: usize) -> Result<
     if numbers.iter().any(|number| beyond(fields[5], *number)) {
         return Err(16);
     }
-    if (room as u64) < 34 + 8 * lags {
+    if room < length(fields[0], lags) {
         return Err(10);
     }
     Ok(bytes_of(fields, numbers))

@@ -79,14 +79,15 @@ enum Sky {
 /// The usual commands of a list, and once in how many dumps there is any other.
 #[derive(Clone, Copy)]
 struct Commands {
-    usual: [u64; 8],
+    usual: [u64; 9],
     other: u64,
 }
 
-const MIXED: Commands = Commands { usual: [0, 1, 1, 2, 2, 2, 4, 7], other: 20 };
-/// 000 and 001 alone, or 010 alone, move a block on and on, all the way round.
-const ADDS: Commands = Commands { usual: [0, 1, 1, 1, 1, 1, 1, 7], other: 200 };
-const LASTS: Commands = Commands { usual: [2, 2, 2, 2, 2, 2, 2, 7], other: 200 };
+const MIXED: Commands = Commands { usual: [0, 1, 1, 2, 2, 2, 3, 4, 7], other: 20 };
+/// 000, 001 and 011 alone, or 010 alone, move a block on and on, all the way round.
+const ADDS: Commands = Commands { usual: [0, 1, 1, 1, 1, 1, 1, 3, 7], other: 200 };
+const LASTS: Commands = Commands { usual: [2, 2, 2, 2, 2, 2, 2, 2, 7], other: 200 };
+const SPEEDS: Commands = Commands { usual: [1, 3, 3, 3, 3, 3, 3, 3, 7], other: 200 };
 
 pub struct Generator {
     pub random: Random,
@@ -98,7 +99,7 @@ pub struct Generator {
 impl Generator {
     pub fn new(mut random: Random, shape: Shape) -> Generator {
         let sky = random.pick(&[Sky::Any, Sky::Any, Sky::Loud, Sky::Broken]);
-        let commands = random.pick(&[MIXED, MIXED, ADDS, LASTS]);
+        let commands = random.pick(&[MIXED, MIXED, MIXED, ADDS, LASTS, SPEEDS]);
         Generator { random, shape, sky, commands }
     }
 
@@ -141,7 +142,8 @@ impl Generator {
         let phases = (bins / blocks).max(1);
         let few = phases.min(3);
         let phase = if self.random.once_in(3) { self.argument(phases) } else { self.random.below(few) };
-        Call::Dump { cell, command, bank, phase }
+        let room = self.room(self.shape.speed_length());
+        Call::Dump { cell, command, bank, phase, room }
     }
 
     /// Mostly of the bin that the label of a cell's Held names: where it went last is likely to be Ready.

@@ -2,6 +2,7 @@
 use crate::call::{Call, Reply, Shape};
 use crate::damage::never;
 use crate::driver::{fresh, perform};
+use crate::frame::words_of;
 use crate::layout;
 use crate::machine::Machine;
 use crate::random::Random;
@@ -51,7 +52,8 @@ impl Three {
     }
 
     pub fn dump(&mut self, cell: u64, command: u64) -> Reply {
-        self.perform(&Call::Dump { cell, command, bank: 0, phase: 0 })
+        let room = self.model.shape.speed_length();
+        self.perform(&Call::Dump { cell, command, bank: 0, phase: 0, room })
     }
 
     /// The forecasts of cells 0 and 1.
@@ -92,6 +94,13 @@ fn holdoff_with_real_ticks() {
     assert_eq!(three.perform(&Call::Integrate { cell: 0 }), Reply::Number(0));
     three.perform(&Call::Emit { cell: 0, bank: 0, bin: 0, room: 66 });
     three.perform(&Call::Page { room: 533 });
+    // What was held off is in the loss; the frame of a full Open has the most ticks and the greatest bias.
+    let Reply::Frame(bytes) = three.dump(1, 0b011) else {
+        panic!("no frame of a full Open");
+    };
+    assert_eq!([2, 5, 6, 7].map(|at| words_of(&bytes)[at]), [524_288, 5, 100, 51_380_224]);
+    assert_eq!(three.forecasts(), [524_268, 524_288].map(Reply::Number));
+    assert_eq!(three.ticks(&mut random, 1), 0);
     three.compare();
     three.tally.print("hold-off with real ticks");
     three.tally.met("tick", &["held off"]);

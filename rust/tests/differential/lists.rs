@@ -86,8 +86,9 @@ impl Pair {
             return None;
         };
         let cell = usize::try_from(cell).ok()?;
-        let &Cell { block, last, .. } = self.model.cells.get(cell)?;
-        Some(Found { cell, command, block, last, reply: self.dumped[cell].clone() })
+        let &Cell { block, last, ref held, ref open, .. } = self.model.cells.get(cell)?;
+        let (occupied, ticks, reply) = (held.occupied == 1, open.ticks, self.dumped[cell].clone());
+        Some(Found { cell, command, block, last, occupied, ticks, reply })
     }
 
     /// The current block and the last command of each cell.
@@ -131,6 +132,7 @@ fn ten_million_calls() {
     tally.print("long lists");
     println!("  {LONG_LISTS} shapes, {words} words of memory compared");
     assert!(tally.total() >= 10_000_000);
+    assert!(tally.times("dump", "a frame") >= 200_000);
     check_outcomes(&tally);
     check_shapes(&shapes);
     tally.stepped(500);
@@ -151,8 +153,8 @@ fn check_shapes(shapes: &[Shape]) {
 /// Everything has happened that can in a list without limits reached or memory altered.
 fn check_outcomes(tally: &Tally) {
     tally.met("tick", &["accepted", "refusal 1", "refusal 2", "refusal 3"]);
-    tally.met("dump", &["answer 0", "answer 1", "answer 2", "answer 7"]);
-    tally.met("dump", &["refusal 1", "refusal 2", "refusal 5", "refusal 6", "refusal 7"]);
+    tally.met("dump", &["answer 0", "answer 1", "answer 2", "answer 7", "a frame", "a frame, room left"]);
+    tally.met("dump", &["refusal 1", "refusal 2", "refusal 5", "refusal 6", "refusal 7", "refusal 10"]);
     tally.met("integrate", &["answer 0", "answer 3", "answer 4"]);
     tally.met("integrate", &["refusal 1", "refusal 2", "refusal 5", "refusal 8"]);
     tally.met("emit", &["accepted", "refusal 1", "refusal 2", "refusal 5", "refusal 7"]);

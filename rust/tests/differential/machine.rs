@@ -43,6 +43,12 @@ struct Place {
     stamp: u64,
 }
 
+/// What a dump did: its answer, or the place whose set became that of a frame, with the data bin that it names.
+enum Dumped {
+    Answer(u64),
+    Sent(Place, u64),
+}
+
 #[derive(Clone, Debug, Default)]
 struct Cell {
     open: Place,
@@ -77,7 +83,7 @@ impl Cell {
         loss
     }
 
-    /// The block of a dump with another command than 111.
+    /// The block of a dump that counts as another command than 111.
     fn block_of(&self, shape: &Shape, command: u64) -> u64 {
         let Some(last) = self.last else {
             return shape.start;
@@ -88,22 +94,25 @@ impl Cell {
         shape.start + (self.block - shape.start + 1) % shape.blocks
     }
 
-    fn dump(&mut self, t: u64, shape: &Shape, command: u64, bank: u64, phase: u64) -> u64 {
+    fn dump(&mut self, t: u64, shape: &Shape, command: u64, bank: u64, phase: u64) -> Dumped {
         if command == 0b111 {
-            return 7;
+            return Dumped::Answer(7);
         }
-        (self.block, self.last) = (self.block_of(shape, command), Some(command));
+        let counted = if command == 0b011 { 0b001 } else { command };
+        (self.block, self.last) = (self.block_of(shape, counted), Some(counted));
         let open = take(&mut self.open);
         self.open.stamp = t;
-        match (command, self.occupied) {
+        let bin = shape.data_bin(phase, self.block);
+        let answer = match (command, self.occupied) {
+            (0b011, _) => return Dumped::Sent(open, bin),
             (0b100, _) => self.lose(1, open.set),
             (_, true) => self.lose(2, open.set),
             (_, false) => {
-                let label = Label { command, bank, bin: shape.data_bin(phase, self.block) };
-                (self.occupied, self.label, self.held) = (true, label, open);
+                (self.occupied, self.label, self.held) = (true, Label { command, bank, bin }, open);
                 0
             }
-        }
+        };
+        Dumped::Answer(answer)
     }
 
     fn integrate(&mut self, bins: u64) -> u64 {
@@ -167,6 +176,7 @@ impl Machine {
         }
         match *call {
             Call::Tick { .. } => (self.t() == RUN_LIMIT).then_some(4),
+            Call::Dump { command: 0b011, room, .. } => (room < self.shape.speed_length()).then_some(10),
             Call::Integrate { cell } => (!self.cells[cell as usize].occupied).then_some(8),
             Call::Emit { cell, bank, bin, room } => {
                 let at = (bank * self.shape.bins + bin) as usize;
@@ -193,8 +203,11 @@ impl Machine {
                 self.ticks.push(samples.clone());
                 Reply::Number(self.cells.iter_mut().map(|cell| u64::from(cell.tick(t))).sum())
             }
-            Call::Dump { cell, command, bank, phase } => {
-                Reply::Number(self.cells[cell as usize].dump(t, &shape, command, bank, phase))
+            Call::Dump { cell, command, bank, phase, .. } => {
+                match self.cells[cell as usize].dump(t, &shape, command, bank, phase) {
+                    Dumped::Answer(answer) => Reply::Number(answer),
+                    Dumped::Sent(place, bin) => self.frame(frame::SPEED, [cell, bank, bin], &place),
+                }
             }
             Call::Integrate { cell } => Reply::Number(self.cells[cell as usize].integrate(shape.bins)),
             Call::Emit { cell, bank, bin, .. } => self.emit(cell, bank, bin),
@@ -208,9 +221,14 @@ impl Machine {
         let at = (bank * self.shape.bins + bin) as usize;
         let (state, place) = &mut self.cells[cell as usize].bins[at];
         *state = FREE;
-        let (set, stamp) = (take(&mut place.set), place.stamp);
-        let row = self.numbers(cell as usize, &set);
-        Reply::Frame(frame::of_bin(&self.shape, cell, bank, bin, stamp, &row))
+        let emitted = Place { set: take(&mut place.set), stamp: place.stamp };
+        self.frame(frame::ACCUMULATOR, [cell, bank, bin], &emitted)
+    }
+
+    /// A frame of this kind, with the numbers of the place's set and its stamp.
+    fn frame(&self, kind: u32, [cell, bank, bin]: [u64; 3], place: &Place) -> Reply {
+        let row = self.numbers(cell as usize, &place.set);
+        Reply::Frame(frame::of_place(kind, &self.shape, [cell, bank, bin], place.stamp, &row))
     }
 
     fn reading(&self, cell: u64, lag: usize, loss: usize) -> Reply {

@@ -119,11 +119,11 @@ fn six_together() {
 
 fn others_accept(shape: &Shape, mem: &mut [u64], cell: u64) {
     let samples = vec![0; 2 * shape.cells as usize];
-    let dump = Call::Dump { cell, command: 0b010, bank: 0, phase: 0 };
+    let dump = |command| Call::Dump { cell, command, bank: 0, phase: 0, room: shape.speed_length() };
     let emit = Call::Emit { cell, bank: 0, bin: 0, room: shape.frame_length() };
     let reading = |loss| Call::Reading { cell, lag: 0, loss, room: [2, 3] };
-    let others = [Call::Tick { samples }, dump, Call::Integrate { cell }, emit, Call::Forecast { cell }];
-    for call in others.into_iter().chain((1..=6).map(reading)) {
+    let moves = [Call::Tick { samples }, dump(0b011), dump(0b010), Call::Integrate { cell }, emit];
+    for call in moves.into_iter().chain([Call::Forecast { cell }]).chain((1..=6).map(reading)) {
         let reply = perform(&shape.numbers(), mem, &call);
         assert!(!matches!(reply, Reply::Refused(_)), "{call:?} of {shape:?}: {reply:?}");
     }
@@ -144,7 +144,7 @@ fn damaged(shape: &Shape, way: usize) -> Vec<u64> {
 }
 
 /// Numbers that are no shape.
-fn no_shape(shape: &Shape, way: usize) -> Vec<u64> {
+pub fn no_shape(shape: &Shape, way: usize) -> Vec<u64> {
     let mut numbers = shape.numbers().to_vec();
     match way {
         0 => numbers[0] = 17,

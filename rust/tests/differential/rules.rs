@@ -13,6 +13,7 @@ pub const READY: u64 = 2;
 pub const SAVE: u64 = 0b000;
 pub const ADD: u64 = 0b001;
 pub const LAST: u64 = 0b010;
+pub const SPEED: u64 = 0b011;
 pub const DISCARD: u64 = 0b100;
 pub const IDLE: u64 = 0b111;
 
@@ -68,7 +69,7 @@ pub fn argument_refusal(shape: &Shape, call: &Call) -> Option<u32> {
     match *call {
         Call::Tick { ref samples } => (samples.len() as u64 != 2 * shape.cells).then_some(3),
         Call::Dump { cell, .. } if no_cell(cell) => Some(5),
-        Call::Dump { command: 3 | 5 | 6 | 8.., .. } => Some(6),
+        Call::Dump { command: 5 | 6 | 8.., .. } => Some(6),
         Call::Dump { bank, phase, .. } => (bank > 1 || breaks_bin_rule(shape, phase)).then_some(7),
         Call::Integrate { cell } | Call::Forecast { cell } => no_cell(cell).then_some(5),
         Call::Emit { cell, .. } if no_cell(cell) => Some(5),

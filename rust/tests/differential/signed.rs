@@ -5,6 +5,7 @@ use crate::frame;
 use crate::page::{self, Counts};
 use crate::rules::{
     argument_refusal, ADD, BIN_LIMIT, DISCARD, FILLING, FREE, IDLE, LAST, OPEN_LIMIT, READY, RUN_LIMIT, SAVE,
+    SPEED,
 };
 
 /// The weight of a product by the difference of its phases, in sixteenths of a turn.
@@ -44,7 +45,7 @@ pub struct Bin {
 pub struct Cell {
     /// The current block.
     pub block: u64,
-    /// The command of the latest dump that was accepted and not idle, if there was one.
+    /// The command of the latest dump that was accepted and not idle, if there was one; 001 for 011.
     pub last: Option<u64>,
     pub open_stamp: u64,
     pub open: Row,
@@ -223,6 +224,7 @@ impl Run {
             Call::Integrate { cell } if self.cell(cell).held.occupied == 0 => Some(8),
             Call::Emit { cell, bank, bin, .. } if self.bin(cell, bank, bin).state != READY => Some(9),
             Call::Emit { room, .. } if room < self.shape.frame_length() => Some(10),
+            Call::Dump { command: SPEED, room, .. } if room < self.shape.speed_length() => Some(10),
             Call::Reading { room, .. } if room[0] < 2 || room[1] < 3 => Some(10),
             Call::Page { room } if room < self.shape.page_length() => Some(10),
             _ => None,
@@ -241,7 +243,8 @@ impl Run {
                 let cells = self.cells.iter_mut().zip(samples.chunks_exact(2));
                 Reply::Number(cells.map(|(cell, xy)| u64::from(cell.tick(xy[0], xy[1]))).sum())
             }
-            Call::Dump { cell, command, bank, phase } => {
+            Call::Dump { cell, command: SPEED, bank, phase, .. } => self.speed_dump(cell, bank, phase),
+            Call::Dump { cell, command, bank, phase, .. } => {
                 Reply::Number(self.cells[cell as usize].dump(t, &shape, command, bank, phase))
             }
             Call::Integrate { cell } => Reply::Number(self.cells[cell as usize].integrate(shape.bins)),
@@ -252,12 +255,22 @@ impl Run {
         }
     }
 
+    /// Open leaves as a frame; for the block it is as if it had been dumped to be added.
+    fn speed_dump(&mut self, number: u64, bank: u64, phase: u64) -> Reply {
+        let shape = self.shape;
+        let cell = &mut self.cells[number as usize];
+        let bin = shape.data_bin(phase, cell.step(&shape, ADD));
+        let stamp = std::mem::replace(&mut cell.open_stamp, self.t);
+        let row = std::mem::replace(&mut cell.open, Row::empty(shape.lags));
+        Reply::Frame(frame::of_place(frame::SPEED, &shape, [number, bank, bin], stamp, &row))
+    }
+
     fn emit(&mut self, cell: u64, bank: u64, data_bin: u64) -> Reply {
         let shape = self.shape;
         let bin = &mut self.cells[cell as usize].bins[(bank * shape.bins + data_bin) as usize];
         let row = std::mem::replace(&mut bin.row, Row::empty(shape.lags));
         bin.state = FREE;
-        Reply::Frame(frame::of_bin(&shape, cell, bank, data_bin, bin.stamp, &row))
+        Reply::Frame(frame::of_place(frame::ACCUMULATOR, &shape, [cell, bank, data_bin], bin.stamp, &row))
     }
 
     fn reading(&self, cell: u64, lag: usize, loss: usize) -> Reply {

@@ -8,8 +8,9 @@ pub struct Tally {
     counts: BTreeMap<(&'static str, String), u64>,
 }
 
-/// The name under which steps of blocks are counted, which are no calls of their own.
+/// The names under which steps of blocks and what speed dumps found are counted, which are no calls of their own.
 const STEP: &str = "block";
+const SENT: &str = "speed dump";
 
 /// A dump of one cell, and what it finds there.
 pub struct Found {
@@ -18,6 +19,9 @@ pub struct Found {
     pub block: u64,
     /// The last command before it, if there was one.
     pub last: Option<u64>,
+    pub occupied: bool,
+    /// The ticks of Open.
+    pub ticks: u64,
     /// The reply to the cell's dump before it.
     pub reply: Reply,
 }
@@ -32,6 +36,7 @@ impl Found {
         match self.reply {
             Reply::Number(7) => ways.push("111 between".to_string()),
             Reply::Refused(_) => ways.push("a refusal between".to_string()),
+            Reply::Frame(_) => ways.push(format!("{:03b} behind a speed dump", self.command)),
             _ => {}
         }
         if at_end && shape.blocks == 256 {
@@ -41,6 +46,13 @@ impl Found {
             ways.push("moved by an overrun".to_string());
         }
         ways
+    }
+
+    /// What became a speed frame, and beside what.
+    fn sent(&self) -> String {
+        let open = if self.ticks == 0 { "an empty Open" } else { "ticks" };
+        let held = if self.occupied { "occupied" } else { "unoccupied" };
+        format!("of {open}, Held {held}")
     }
 }
 
@@ -65,6 +77,10 @@ fn outcome(call: &Call, reply: &Reply) -> String {
         (Call::Dump { .. } | Call::Integrate { .. }, Reply::Number(answer)) => {
             format!("answer {answer}")
         }
+        (Call::Dump { room, .. }, Reply::Frame(bytes)) if *room > bytes.len() => {
+            "a frame, room left".to_string()
+        }
+        (Call::Dump { .. }, Reply::Frame(_)) => "a frame".to_string(),
         (Call::Tick { .. }, Reply::Number(1..)) => "held off".to_string(),
         _ => "accepted".to_string(),
     }
@@ -81,16 +97,19 @@ impl Tally {
 
     /// The step to this block from the one that a dump found, unless the dump was refused or idle.
     pub fn count_step(&mut self, shape: &Shape, found: &Found, block: u64, reply: &Reply) {
-        if matches!(reply, Reply::Number(0..=2)) {
+        if matches!(reply, Reply::Number(0..=2) | Reply::Frame(_)) {
             for way in found.ways(shape, block, reply) {
                 self.add(STEP, way);
             }
+        }
+        if matches!(reply, Reply::Frame(_)) {
+            self.add(SENT, found.sent());
         }
     }
 
     /// How many calls were counted.
     pub fn total(&self) -> u64 {
-        let calls = self.counts.iter().filter(|((name, _), _)| *name != STEP);
+        let calls = self.counts.iter().filter(|((name, _), _)| ![STEP, SENT].contains(name));
         calls.map(|(_, count)| count).sum()
     }
 
@@ -108,15 +127,17 @@ impl Tally {
         }
     }
 
-    fn times(&self, name: &'static str, outcome: &str) -> u64 {
+    pub fn times(&self, name: &'static str, outcome: &str) -> u64 {
         self.counts.get(&(name, outcome.to_string())).copied().unwrap_or_default()
     }
 
     /// Blocks have been stepped so often in each way: by each command as a cell's first, behind each other and from
-    /// S + M - 1 (where no 100 leaves a block), with a 111 or a refused dump between, by an overrun.
+    /// S + M - 1 (where no 100 leaves a block), with a 111 or a refused dump between, behind a speed dump, by an
+    /// overrun. Speed dumps have found Open with ticks and without, Held occupied and not.
     pub fn stepped(&self, least: u64) {
         let mut ways = ["111 between", "a refusal between", "moved by an overrun"].map(String::from).to_vec();
-        for command in ["000", "001", "010", "100"] {
+        for command in ["000", "001", "010", "011", "100"] {
+            ways.push(format!("{command} behind a speed dump"));
             ways.extend(["none", "100"].map(|last| format!("{command} behind {last}")));
             for last in ["000", "001", "010"] {
                 let way = format!("{command} behind {last}");
@@ -126,6 +147,12 @@ impl Tally {
         for way in ways {
             let times = self.times(STEP, &way);
             assert!(times >= least, "{times} blocks were stepped so: {way}");
+        }
+        for held in ["Held occupied", "Held unoccupied"] {
+            for way in ["of an empty Open", "of ticks"].map(|open| format!("{open}, {held}")) {
+                let times = self.times(SENT, &way);
+                assert!(times >= least, "{times} speed dumps were so: {way}");
+            }
         }
     }
 }

@@ -2,7 +2,7 @@
 use std::collections::BTreeSet;
 use std::fmt::Debug;
 
-use lta::{ffi, Command, Fields, Frame, Loss, Refusal, Run, Shape};
+use lta::{ffi, Command, Fields, Frame, Kind, Loss, Refusal, Run, Shape};
 
 use crate::text::{header, without};
 
@@ -69,18 +69,21 @@ fn indexed(name: &str, length: &str, numbers: &[u64], fields: &[(String, u64)]) 
 }
 
 #[test]
-fn refusals_commands_and_losses() {
+fn refusals_losses_commands_and_kinds() {
     let refusals = Refusal::ALL.map(|refusal| (refusal, u64::from(refusal.number())));
     let mut expected = listed(refusals);
     expected.insert(0, ("NONE".to_string(), 0));
     assert_eq!(enumerated(&header(), "lta_refusal"), expected);
     let losses = Loss::ALL.map(|loss| (loss, u64::from(loss.number())));
     assert_eq!(enumerated(&header(), "lta_loss"), listed(losses));
-    let commands = [Command::Save, Command::Add, Command::Last, Command::Discard, Command::Idle];
+    let commands =
+        [Command::Save, Command::Add, Command::Last, Command::Speed, Command::Discard, Command::Idle];
     assert_eq!(
         enumerated(&header(), "lta_command"),
         listed(commands.map(|command| (command, command as u64)))
     );
+    let kinds = [Kind::Accumulated, Kind::Speed];
+    assert_eq!(enumerated(&header(), "lta_kind"), listed(kinds.map(|kind| (kind, kind as u64))));
 }
 
 /// The crate's commands are all that the engine takes, and what it answers is named.
@@ -90,9 +93,11 @@ fn the_engine_takes_those_commands_and_no_other() {
     let moved = enumerated(&header(), "lta_moved");
     for command in 0..20 {
         let mut mem = vec![0; SHAPE.words_needed().unwrap()];
-        let answer = ffi::outcome(ffi::dump(&SHAPE.numbers(), &mut mem, 0, command, 0, 0));
+        let mut out = vec![0; SHAPE.speed_frame_length()];
+        let answer = ffi::outcome(ffi::dump(&SHAPE.numbers(), &mut mem, 0, command, 0, 0, &mut out));
         let name = commands.iter().find(|(_, number)| *number == command).map(|(name, _)| name.as_str());
         let expected = match name {
+            Some("SPEED") => Ok(out.len() as u32),
             Some("DISCARD") => Ok(Loss::Ordered.number()),
             Some("IDLE") => Ok(moved[1].1 as u32),
             Some(_) => Ok(moved[0].1 as u32),
@@ -148,7 +153,7 @@ fn places_of_a_reading() {
 }
 
 #[test]
-fn places_of_a_pair_and_of_the_lag_part() {
+fn places_of_a_pair() {
     let fields = Fields { kind: 2, ticks: 4, centre: 4, ..Fields::default() };
     let frame = Frame::write(&fields, &[(8, -2), (0, 0)]).unwrap();
     let mut pair = [0.0; 2];
@@ -157,8 +162,19 @@ fn places_of_a_pair_and_of_the_lag_part() {
     let found: Vec<_> = names.iter().map(|(name, at)| (name.as_str(), pair[*at as usize])).collect();
     assert_eq!(found, [("REAL", 2.0), ("IMAGINARY", -0.5)]);
     assert_eq!(defined("LTA_PAIR_LEN"), 2);
-    let start = defined("LTA_LAG_PART_START") as usize;
-    assert_eq!(frame.lag_part(), &frame.bytes()[start..start + 16]);
+}
+
+/// The longest frame of each kind and its lag part, whose numbers tests/header.c expects of the header's macros.
+#[test]
+fn lengths_and_lag_parts_of_frames() {
+    let lags = defined("LTA_LAGS_MOST");
+    for (kind, length, start) in [(Kind::Accumulated, 1058, 30), (Kind::Speed, 1062, 34)] {
+        let fields = Fields { kind: kind as u32, ticks: 1, ..Fields::default() };
+        let frame = Frame::write(&fields, &vec![(-97, 98); lags as usize]).unwrap();
+        assert_eq!(frame.bytes().len(), length, "{kind:?}");
+        assert_eq!(ffi::lag_part(lags, frame.bytes()), start * 65_536 + 1024, "{kind:?}");
+        assert_eq!(frame.lag_part(), &frame.bytes()[start as usize..length - 4], "{kind:?}");
+    }
 }
 
 /// A page of the largest shape, cut into lines as long as the header says: each ends in a line feed, and no other byte

@@ -7,8 +7,8 @@ use crate::words::{bytes, hex, number, numbers, spaced};
 /// The answer, or why the call cannot be made or what it did to a lent buffer.
 type Answer = Result<String, String>;
 
-/// Where include/lta.h has the lag pairs of a frame.
-const LAG_PART: u64 = 30;
+/// The command of a speed dump.
+const SPEED: u64 = 3;
 
 /// The answer of a result, or its refusal.
 pub fn outcome(result: u64) -> Result<u64, u64> {
@@ -36,6 +36,18 @@ fn filled(room: usize, call: impl FnOnce(&mut [u8]) -> u64) -> Answer {
     told(result, |length| format!("0 {length} {}", hex(bytes)))
 }
 
+/// A dump, of which a speed dump writes a frame in the lent buffer and any other nothing.
+fn dump(shape: &[u64], mem: &mut [u64], [cell, command, bank, phase]: [u64; 4], room: usize) -> Answer {
+    let mut call = |out: &mut [u8]| ffi::dump(shape, mem, cell, command, bank, phase, out);
+    if command == SPEED {
+        return filled(room, call);
+    }
+    let mut out = Lent::new(room, LEFT);
+    let result = call(out.part());
+    out.written(0)?;
+    plain(result)
+}
+
 fn reading(shape: &[u64], mem: &[u64], cell: u64, lag: u64, loss: u64) -> Answer {
     let mut sums = Lent::new(2, i64::from_ne_bytes([LEFT; 8]));
     let mut counts = Lent::new(3, u64::from_ne_bytes([LEFT; 8]));
@@ -53,10 +65,7 @@ fn read(lags: u64, frame: &[u8]) -> Answer {
 }
 
 fn part(lags: u64, frame: &[u8]) -> Answer {
-    told(ffi::lag_part(lags, frame), |length| match length {
-        0 => "0 0".to_string(),
-        _ => format!("{LAG_PART} {length}"),
-    })
+    told(ffi::lag_part(lags, frame), |part| format!("{} {}", part / 65_536, part % 65_536))
 }
 
 fn norm(lags: u64, lag: u64, frame: &[u8]) -> Answer {
@@ -81,9 +90,9 @@ pub fn perform(shape: &[u64], mem: &mut [u64], call: &[&str]) -> Answer {
         ["need"] => plain(ffi::words_needed(shape)),
         ["setup"] => told(ffi::setup(shape, mem), |answer| answer.to_string()),
         ["tick", samples] => plain(ffi::tick(shape, mem, &bytes(samples)?)),
-        ["dump", "-", cell, command, bank, phase, "-", "-"] => {
-            let (cell, command, bank) = (number(cell)?, number(command)?, number(bank)?);
-            plain(ffi::dump(shape, mem, cell, command, bank, number(phase)?))
+        ["dump", "-", cell, command, bank, phase, "-", room] => {
+            let named = [number(cell)?, number(command)?, number(bank)?, number(phase)?];
+            dump(shape, mem, named, number(room)?)
         }
         ["integrate", "-", cell] => plain(ffi::integrate(shape, mem, number(cell)?)),
         ["emit", "-", cell, bank, bin, room] => {

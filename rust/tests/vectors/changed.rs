@@ -61,9 +61,10 @@ fn every_other_answer_is_seen() {
 }
 
 /// A part of the list, and another in its first place: heads, calls and arguments that are none, a dump that names a
-/// block, a missing answer, buffers too short, lengths, a run that is not set up, lines that are missing or too many.
-const CHANGES: [(&str, &str); 18] = [
-    ("level 3\n", "level 2\n"),
+/// block or lends no buffer, a missing answer, buffers too short or long enough, lengths, a run that is not set up,
+/// lines that are missing or too many.
+const CHANGES: [(&str, &str); 21] = [
+    ("level 4\n", "level 3\n"),
     ("shape 2 ", "shape 1 "),
     (" 100 1\n", " 100 2\n"),
     ("bound 6400\n", "bound 64\n"),
@@ -71,12 +72,15 @@ const CHANGES: [(&str, &str); 18] = [
     ("\ntick ", "\ntock "),
     ("\ntick ", "\ntick 0"),
     ("\nintegrate - ", "\nintegrate 0 "),
-    (" 0 - - = 0 0\n", " 0 3 - = 0 0\n"),
+    (" 1 - 0 = 0 0\n", " 1 3 0 = 0 0\n"),
+    (" 1 - 0 = 0 0\n", " 1 - - = 0 0\n"),
+    (" - 77 = 0 70 ", " - 69 = 0 70 "),
+    (" - 66 = 10\n", " - 70 = 10\n"),
     (" = 0 0\n", "\n"),
     (" 66 = 0 66 ", " 65 = 0 66 "),
     ("\npage 533 = 0 533 ", "\npage 532 = 0 533 "),
     ("\npage 529 = 10\n", "\npage 533 = 10\n"),
-    ("\npage 1 = 10\n", "\npage - 1 = 10\n"),
+    ("\npage 529 = 10\n", "\npage - 529 = 10\n"),
     (" 100 1 0 need = 1\n", " 100 1 99 need = 1\n"),
     (" 100 1 0 need = 1\n", " 100 1 need = 1\n"),
     ("\nend\n", "\n"),

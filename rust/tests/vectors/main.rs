@@ -1,4 +1,4 @@
-//! A list of calls with their answers, worked out from document 01 and the requests up to 2026-03 apart from this
+//! A list of calls with their answers, worked out from document 01 and the requests up to 2026-04 apart from this
 //! project, through the C interface.
 //!
 //! A line is `CALL ARGS = ANSWER`: decimal numbers, hexadecimal buffers, `-` for no bytes and for an argument that
@@ -9,7 +9,7 @@
 //! setup = 0                                    on the needed words, filled with rubbish
 //! @ C N B M S R Z 1 DELTA CALL .. = 1|2        with this shape and DELTA words more than the run has; need: the size
 //! tick HEX = 0 HELDOFF
-//! dump - CELL COMMAND BANK PHASE - - = 0 LOSS
+//! dump - CELL COMMAND BANK PHASE - ROOM = 0 LOSS, or 0 LENGTH HEX for command 3
 //! integrate - CELL = 0 LOSS
 //! emit - CELL BANK BIN ROOM = 0 LENGTH HEX
 //! reading - CELL LAG LOSS = 0 I Q TICKS EDGE CENTRE
@@ -34,27 +34,27 @@ mod words;
 
 use std::collections::BTreeMap;
 
-const LIST: &str = include_str!("level-03.txt");
-const LEVEL: u32 = 3;
+const LIST: &str = include_str!("level-04.txt");
+const LEVEL: u32 = 4;
 
 /// How many lines of each kind the list has.
 const LINES: [(&str, usize); 16] = [
     ("@", 14),
     ("bound", 1),
-    ("dump", 141),
-    ("emit", 44),
+    ("dump", 103),
+    ("emit", 50),
     ("end", 1),
-    ("forecast", 19),
-    ("integrate", 109),
+    ("forecast", 16),
+    ("integrate", 105),
     ("level", 1),
-    ("norm", 4),
-    ("page", 6),
-    ("part", 4),
-    ("read", 4),
-    ("reading", 57),
-    ("setup", 2),
+    ("norm", 8),
+    ("page", 5),
+    ("part", 8),
+    ("read", 8),
+    ("reading", 53),
+    ("setup", 1),
     ("shape", 1),
-    ("tick", 161),
+    ("tick", 205),
 ];
 
 #[test]

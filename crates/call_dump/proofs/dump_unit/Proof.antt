@@ -1,7 +1,9 @@
 -- The block counter's step, then a dump by the label with its block.
 use native.Mathlib.Omega.{arith}
 use Prim.Native.Nat.{_+_, _*_, _<_}
-use Rattle.call_dump.proofs.Counted.{sound-both, still-fits, still-sound, dumped}
+use Rattle.cell_block.proofs.CounterLaws.{still-fits}
+use Rattle.lta_spec.proofs.Passed.{dump-tested}
+use Rattle.call_dump.proofs.Counted.{still-sound, dumped}
 use borrow.Author.Needs.{needs}
 use Rattle.call_dump.proofs.dump_unit.Statement.{statement}
 use Rattle.call_dump.proofs.dump_unit.Tie as tie
@@ -10,7 +12,7 @@ count-block-requires : tie.Need-count-block-requires
 count-block-requires c κs =
     let s = c .before .before in
     let a = s .args in
-    (s .pre .0, sound-both (a .n) (a .bins) (a .blocks) (a .t) (a .command) _ (s .pre .1 .0) .0)
+    (s .pre .0, dump-tested (a .n) (a .bins) (a .blocks) (a .t) (a .command) _ (s .pre .1 .0) .0)
 
 -- the data bin is one of few
 numbered : (c : tie.After-slice-known2) → let a = c .before .before .before .before .before .args in
@@ -32,7 +34,7 @@ dump-cell-requires c κs =
     let k = c .before .before .before .count-block .ensures in (
       still-fits (s .pre .0 .0) k,
       still-sound (s .pre .0 .0) k (a .t)
-          (sound-both (a .n) (a .bins) (a .blocks) (a .t) (a .command) _ (s .pre .1 .0) .1),
+          (dump-tested (a .n) (a .bins) (a .blocks) (a .t) (a .command) _ (s .pre .1 .0) .1),
     )
 
 same-length : tie.Need-same-length

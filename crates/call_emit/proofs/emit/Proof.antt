@@ -3,7 +3,7 @@ use mathlib.Core.Path.{_≡_, refl, sym, ap, _∙_}
 use denote.Ref.{now}
 use Rattle.lta_spec.specs.Call.Call.{emit}
 use Rattle.lta_spec.specs.Answer.Answer.{number}
-use Rattle.lta_spec.specs.Step.{verdict, step, accepted}
+use Rattle.lta_spec.specs.Step.{verdict, step, withCell, sends, accepted}
 use Rattle.lta_spec.specs.declared.Verdict.the-variants.{Accepted}
 use Rattle.call_run.proofs.RunLaws.{shape-is}
 use Rattle.call_emit.specs.Emission.{EmitsFrom}
@@ -63,7 +63,7 @@ same-length-4 : tie.Need-same-length-4
 same-length-4 c = search needs
 
 returns-2 : tie.Need-returns-2
-unfolding accepted
+unfolding accepted sends withCell
 returns-2 c =
     let x = c .before .before .before .before .before .before .before .before .before .before in
     let a = x .before .before .before .before .before .before .before .args in

@@ -1,6 +1,7 @@
 -- `call_integrate::integrate` meets its contract.
 use mathlib.Core.Path.{_≡_, refl, sym, _∙_}
 use mathlib.Core.Bool.{true}
+use mathlib.Core.List.{[]}
 use denote.Ref.{now}
 use Rattle.lta_spec.specs.Damage.{integrateSound}
 use Rattle.lta_spec.specs.Call.Call.{integrate}
@@ -91,11 +92,12 @@ returns-2 c =
     let x = c .before .before .before .before .before .before in
     let a = x .before .before .before .before .before .before .args in
     let q = shown (x .before) in
-    loan-moved (q .cell)
+    let moved = loan-moved (q .cell)
     (c .before .before .before .before .before .cell-start .ensures .is)
-    (c .before .before .before .before .cell-words .ensures .0) (integrate (a .cell))
+    (c .before .before .before .before .cell-words .ensures .0) (integrate (a .cell)) []
     (λ u. integrateCell (a .s .lags) (a .s .bins) (u .cell)) (λ u. u .counter) _ _
-    (accepting (x .before)) refl (c .before .before .integrate-cell .ensures)
+    (accepting (x .before)) refl (c .before .before .integrate-cell .ensures) in
+    (moved .0, moved .1 .1)
 
 pub integrate-spec : {M : Type 1} → statement M
 integrate-spec =

@@ -1,10 +1,9 @@
 -- `call_run::tested` meets its contract.
-use borrow.Author.Needs.{needs}
 use Rattle.call_run.proofs.tested.Statement.{statement}
 use Rattle.call_run.proofs.tested.Tie as tie
 
 returns : tie.Need-returns
-returns c = search needs
+returns c = rw (c .if1 .taken)
 
 returns-2 : tie.Need-returns-2
 returns-2 c = rw (c .if1 .left)

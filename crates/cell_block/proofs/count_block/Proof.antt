@@ -2,12 +2,13 @@
 use native.Mathlib.Omega.{arith}
 use native.Mathlib.Numerals.{add-one}
 use lib.ListN.{set, length-set}
-use mathlib.Core.Path.{sym, subst}
+use mathlib.Core.Path.{sym, ap, _∙_, subst}
+use Prim.Native.Nat.{suc}
 use denote.Ref.{now}
 use Rattle.cell_layout.specs.Offsets.{blockAt, lastCommandAt}
 use Rattle.cell_layout.proofs.CellLaws.{long}
 use Rattle.cell_block.specs.Counting.{Counts}
-use Rattle.cell_block.proofs.CounterLaws.{within, idle-counts, counts}
+use Rattle.cell_block.proofs.CounterLaws.{kept-small, within, idle-counts, counts}
 use borrow.Author.Needs.{needs}
 use Rattle.cell_block.proofs.count_block.Statement.{statement}
 use Rattle.cell_block.proofs.count_block.Tie as tie
@@ -31,25 +32,31 @@ offset-after-requires c κs =
 slice-write-cell : tie.Need-slice-write-cell
 slice-write-cell c = search needs
 
+kept-as-requires : tie.Need-kept-as-requires
+kept-as-requires c κs = search needs
+
 add-cell : tie.Need-add-cell
-add-cell c = search needs
+add-cell c =
+    let s = c .before .before .before .before .before .before in
+    omega (arith, s .pre .0 .1, c .kept-as .ensures, kept-small (s .args .command))
 
 slice-write-cell-2 : tie.Need-slice-write-cell-2
 slice-write-cell-2 c =
-    let s = c .before .before .before .before .before in simp length-set (omega (arith, long (s .pre .0 .0)))
+    let s = c .before .before .before .before .before .before in simp length-set (omega (arith, long (s .pre .0 .0)))
 
 same-length : tie.Need-same-length
 same-length c = search needs
 
 returns-2 : tie.Need-returns-2
 returns-2 c =
-    let s = c .before .before .before .before .before in
+    let s = c .before .before .before .before .before .before in
     let a = s .args in
-    let next = c .offset-after .result in
-    let words = set (now (a .cell)) blockAt next in
-    subst (λ v. Counts (a .n) (a .bins) (a .blocks) (a .command) (now (a .cell)) (set words lastCommandAt v) next)
-    (sym (add-one (a .command)))
-    (counts (s .pre .0 .0) (a .blocks) (a .command) next (c .before .before .if1 .left) (c .offset-after .ensures))
+    let o = c .before .offset-after in
+    let words = set (now (a .cell)) blockAt (o .result) in
+    subst
+    (λ v. Counts (a .n) (a .bins) (a .blocks) (a .command) (now (a .cell)) (set words lastCommandAt v) (o .result))
+    (sym (add-one (c .kept-as .result) ∙ ap suc (c .kept-as .ensures)))
+    (counts (s .pre .0 .0) (a .blocks) (a .command) (o .result) (c .before .before .before .if1 .left) (o .ensures))
 
 pub count-block-spec : {M : Type 1} → statement M
 count-block-spec =
@@ -60,6 +67,7 @@ count-block-spec =
     slice-read-offset-after
     offset-after-requires
     slice-write-cell
+    kept-as-requires
     add-cell
     slice-write-cell-2
     same-length

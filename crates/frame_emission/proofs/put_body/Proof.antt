@@ -13,18 +13,15 @@ use borrow.Author.Needs.{needs}
 use Rattle.frame_emission.proofs.put_body.Statement.{statement}
 use Rattle.frame_emission.proofs.put_body.Tie as tie
 
-header-words-requires : tie.Need-header-words-requires
-header-words-requires c κs = search needs
+put-header-requires : tie.Need-put-header-requires
+put-header-requires c κs = search needs
 
-slice-aggregate-put-words : tie.Need-slice-aggregate-put-words
-slice-aggregate-put-words c = search needs
-
-put-words-requires : tie.Need-put-words-requires
-put-words-requires c κs = search needs
+head-words-requires : tie.Need-head-words-requires
+head-words-requires c κs = search needs
 
 put-sums-requires : tie.Need-put-sums-requires
 put-sums-requires c κs =
-    let s = c .before .before .before .before .before .before .before .before .before in
+    let s = c .before .before .before .before .before .before .before .before in
     (omega (arith, valid (s .args .f) (s .pre .0)), search needs)
 
 add-k : tie.Need-add-k
@@ -44,23 +41,23 @@ returns c =
     let p = c .before .before in
     let q = p .before .before in
     let r = q .before .before .before .before in
-    let v = r .before .before .before .before in
-    let h = v .before .before .before in
-    let a = h .before .before .before .args in
+    let h = r .before .before in
+    let v = h .before .before .before in
+    let s = v .before .before .before .before in
+    let a = s .args in
     let xs = now (a .sums) in
     let zs = rowLags (a .f .ticks) xs in
     p .put-word .ensures
-    ∙ body-put (now (a .body)) (a .f) (lagWords zs) (length xs) (h .before .before .before .pre .0) (lags-below zs)
-    (length-unbiased (a .f .ticks) xs) (omega arith)
-    (rw (v .put-words .ensures, h .header-words .ensures) at (r .put-sums .ensures)) (q .sum-words .ensures)
+    ∙ body-put (now (a .body)) (a .f) (lagWords zs) (h .head-words .result) (length xs) (h .head-words .ensures .0)
+    (s .pre .0) (lags-below zs) (length-unbiased (a .f .ticks) xs) (omega (arith, h .head-words .ensures .0, s .pre .1))
+    (rw (v .put-header .ensures) at (r .put-sums .ensures)) (q .sum-words .ensures)
 
 pub put-body-spec : {M : Type 1} → statement M
 put-body-spec =
     tie.close
     (tie.spec
-    header-words-requires
-    slice-aggregate-put-words
-    put-words-requires
+    put-header-requires
+    head-words-requires
     put-sums-requires
     add-k
     sum-words-requires

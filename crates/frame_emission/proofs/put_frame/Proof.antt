@@ -2,7 +2,7 @@
 use mathlib.Core.Path.{_≡_, ap, _∙_}
 use Prim.Native.Nat.{_-_, _≤_}
 use native.Mathlib.Omega.{arith}
-use lib.ListN.{length, getD, drop, length-set, length-drop}
+use lib.ListN.{length, drop, length-set, length-drop}
 use denote.Ref.{now}
 use borrow.Rule.Slice.PartMut.{putMid}
 use Rattle.lta_spec.specs.Words.{splice}
@@ -15,7 +15,6 @@ use Rattle.lta_spec.specs.Step.{rowFrame}
 use Rattle.lta_spec.proofs.WordLaws.{length-splice}
 use Rattle.frame_codec.proofs.FrameStores.{rest-lent, markedOut, tail-lent, tail-back, frame-left}
 use Rattle.frame_fields.specs.Emits.{fieldsFrom}
-use Rattle.frame_emission.proofs.Laws.{frame-from}
 use borrow.Author.Needs.{needs}
 use Rattle.frame_emission.proofs.put_frame.Statement.{statement}
 use Rattle.frame_emission.proofs.put_frame.Tie as tie
@@ -23,23 +22,23 @@ use Rattle.frame_emission.proofs.put_frame.Tie as tie
 left : (c : tie.After-slice-known2)
     → let a = c .before .before .before .before .before .before .before .before .args in
     let out = markedOut (now (a .out)) in
-    let b = now (a .bin) in
     putMid 2 (length out - 2) out (c .before .before .put-body .last .0)
-    ≡ splice (now (a .out)) 0 (rowFrame (a .s) (a .cell) (a .bank) (a .number) (stamped (drop 2 b) (getD b 1 0)))
-unfolding markedOut frameOf emittedFields
+    ≡ splice (now (a .out)) 0
+    (rowFrame (a .s) (a .kind) (a .cell) (a .bank) (a .bin) (stamped (now (a .row)) (a .stamp)))
+unfolding markedOut frameOf rowFrame emittedFields
 left c =
     let e = c .before .before .before .before .before in
     let s = e .before .before .before in
     let a = s .args in
     let out = now (a .out) in
-    let b = now (a .bin) in
-    let f = fieldsFrom (a .s) (a .cell) (a .bank) (a .number) b in
-    let bytes = bytesOf (sealed (header f) (lagWords (rowLags (f .ticks) (drop 5 b)))) in
-    let room : 2 ≤ length out = omega arith in
+    let row = now (a .row) in
+    let f = fieldsFrom (a .s) (a .kind) (a .cell) (a .bank) (a .bin) (a .stamp) row in
+    let bytes = bytesOf (sealed (header f) (lagWords (rowLags (f .ticks) (drop 3 row)))) in
+    let room : 2 ≤ length out = omega (arith, s .pre .1) in
     let last : c .before .before .put-body .last .0 ≡ splice (drop 2 out) 0 bytes =
     c .before .before .put-body .ensures
-    ∙ rw (tail-lent out room, rest-lent 5 b, e .emitted-fields .ensures .0) in
-    rw (last, frame-from (a .s) (a .cell) (a .bank) (a .number) b)
+    ∙ rw (tail-lent out room, rest-lent 3 row, e .emitted-fields .ensures .0) in
+    rw last
     (tail-back out (splice (drop 2 out) 0 bytes) room (length-splice (drop 2 out) 0 bytes ∙ length-drop 2 out)
     ∙ frame-left out bytes room)
 
@@ -77,12 +76,13 @@ part-put-body-end-2 : tie.Need-part-put-body-end-2
 part-put-body-end-2 c = search needs
 
 put-body-requires : tie.Need-put-body-requires
-unfolding markedOut
+unfolding markedOut emittedFields
 put-body-requires c κs =
     let e = c .before .before in
     let a = e .before .before .before .args in (
       e .emitted-fields .ensures .1,
-      rw (tail-lent (now (a .out)) (omega arith), rest-lent 5 (now (a .bin))) (simp length-drop (omega arith)),
+      rw (tail-lent (now (a .out)) (omega arith), rest-lent 3 (now (a .row)), e .emitted-fields .ensures .0)
+          (simp length-drop (omega arith)),
     )
 
 same-length : tie.Need-same-length

@@ -10,8 +10,8 @@ use Rattle.frame_header.proofs.fields_ok.Tie as tie
 returns : tie.Need-returns
 unfolding fieldsOk
 returns c =
-    let s = c .before .before .before .before .before .before .before .before .before in
-    let narrow : s .args .f .second ≤ 4294967295 = omega (arith, c .struct-known9 .given) in
+    let s = c .before .before .before .before .before .before .before .before .before .before in
+    let narrow : s .args .f .second ≤ 4294967295 = omega (arith, c .struct-known10 .given) in
     rw (le-leb (s .args .f .second) 4294967295 narrow) (simp (and-assoc, and-true))
 
 pub fields-ok-spec : {M : Type 1} → statement M

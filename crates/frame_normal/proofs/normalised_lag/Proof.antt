@@ -5,10 +5,10 @@ use native.Mathlib.Omega.{arith}
 use lib.ListN.{length, getD, take, drop, length-drop}
 use denote.Ref.{now}
 use borrow.Author.Tests.{ne-eqb}
-use Rattle.lta_spec.specs.Frame.{accumulated, headWords, bodyOf}
-use Rattle.lta_spec.specs.FrameCalls.{normalVerdict}
+use Rattle.lta_spec.specs.Frame.{headWords, bodyOf}
+use Rattle.lta_spec.specs.FrameCalls.{kindBy, normalVerdict}
 use Rattle.lta_spec.specs.declared.Verdict.the-variants as verdict
-use Rattle.lta_spec.proofs.RoundTrips.{Normalises, normalises, count-small}
+use Rattle.lta_spec.proofs.RoundTrips.{head-least, Normalises, normalises, count-small}
 use Rattle.frame_codec.proofs.FrameStores.{rest-lent}
 use borrow.Author.Needs.{needs}
 use Rattle.frame_normal.proofs.normalised_lag.Statement.{statement}
@@ -31,7 +31,7 @@ small c = count-small (c .before .before .before .before .args .n) (fine c .fram
 -- the words behind the mark, lent
 inside : (c : tie.After-enum-told) (k : ℕ)
     → let a = c .before .before .before .before .args in let s = now (a .bytes) in
-    k < 8 + 2 * a .n → 4 * k + 4 ≤ length (take (length s - 2) (drop 2 s))
+    k < headWords (kindBy (a .n) s) + 2 * a .n + 1 → 4 * k + 4 ≤ length (take (length s - 2) (drop 2 s))
 inside c k h =
     let s = now (c .before .before .before .before .args .bytes) in
     rw (rest-lent 2 s) (simp length-drop (omega (arith, fine c .frame .size)))
@@ -60,7 +60,9 @@ part-body-end : tie.Need-part-body-end
 part-body-end c = search needs
 
 word-at-requires : tie.Need-word-at-requires
-word-at-requires c κs = inside (c .before) 3 (omega arith)
+word-at-requires c κs =
+    let a = c .before .before .before .before .before .args in
+    inside (c .before) 3 (omega (arith, head-least (kindBy (a .n) (now (a .bytes)))))
 
 returns : tie.Need-returns
 returns c =
@@ -68,33 +70,48 @@ returns c =
     let none : getD (bodyOf s) 3 0 ≡ 0 = sym (count (c .before)) ∙ c .if1 .taken in
     rw (told (c .before .before .before), none)
 
+length-kind-requires : tie.Need-length-kind-requires
+length-kind-requires c κs = small (c .before .before .before)
+
+head-words-requires : tie.Need-head-words-requires
+head-words-requires c κs = search needs
+
+-- the header words of the frame's kind
+heads : (c : tie.After-head-words)
+    → let a = c .before .before .before .before .before .before .before .before .before .args in
+    c .head-words .result ≡ headWords (kindBy (a .n) (now (a .bytes)))
+heads c = rw (c .before .length-kind .ensures) at (c .head-words .ensures .0)
+
 mul-at : tie.Need-mul-at
-mul-at c = omega (arith, small (c .before .before .before), fine (c .before .before .before) .lag)
+mul-at c = let d = c .before .before .before .before .before in omega (arith, small d, fine d .lag)
 
 add-at : tie.Need-add-at
-add-at c = omega (arith, small (c .before .before .before), fine (c .before .before .before) .lag)
+add-at c = let d = c .before .before .before .before .before in omega (arith, small d, fine d .lag)
 
 part-of-requires : tie.Need-part-of-requires
 part-of-requires c κs =
-    let d = c .before .before .before in
-    inside d (headWords accumulated + 2 * d .before .before .before .before .args .k) (omega (arith, fine d .lag))
+    let d = c .before .before .before .before .before in
+    inside d (c .head-words .result + 2 * d .before .before .before .before .args .k)
+    (omega (arith, fine d .lag, heads c))
 
 add-part-of : tie.Need-add-part-of
 add-part-of c =
-    let d = c .before .before .before .before in
+    let d = c .before .before .before .before .before .before in
     omega (arith, small d, fine d .lag)
 
 part-of-requires-2 : tie.Need-part-of-requires-2
 part-of-requires-2 c κs =
-    let d = c .before .before .before .before in
-    inside d (headWords accumulated + 2 * d .before .before .before .before .args .k + 1) (omega (arith, fine d .lag))
+    let d = c .before .before .before .before .before .before in
+    inside d (c .before .head-words .result + 2 * d .before .before .before .before .args .k + 1)
+    (omega (arith, fine d .lag, heads (c .before)))
 
 returns-2 : tie.Need-returns-2
 returns-2 c = rw (← sym (c .before .r .given .1) ∙ c .before .before .before .normal-verdict .ensures)
 
 returns-3 : tie.Need-returns-3
 returns-3 c =
-    let t = c .before .before in
+    let h = c .before .before in
+    let t = h .before .before in
     let d = t .before .before .before in
     let s = now (d .before .before .before .before .args .bytes) in
     let count = count (t .before) in
@@ -104,6 +121,7 @@ returns-3 c =
       ne-eqb _ _ some,
       c .before .part-of .ensures,
       c .part-of2 .ensures,
+      heads h,
       rest-lent 2 s,
       count,
     )
@@ -120,6 +138,8 @@ normalised-lag-spec =
     part-body-end
     word-at-requires
     returns
+    length-kind-requires
+    head-words-requires
     mul-at
     add-at
     part-of-requires

@@ -3,9 +3,9 @@ use mathlib.Core.Path.{_≡_, sym, _∙_}
 use native.Mathlib.Omega.{arith}
 use lib.ListN.{length-drop}
 use denote.Ref.{now}
-use Rattle.lta_spec.specs.FrameCalls.{readVerdict}
+use Rattle.lta_spec.specs.FrameCalls.{kindBy, readVerdict}
 use Rattle.lta_spec.specs.declared.Verdict.the-variants as verdict
-use Rattle.lta_spec.proofs.RoundTrips.{Accepted, accepted}
+use Rattle.lta_spec.proofs.RoundTrips.{head-least, Accepted, accepted}
 use Rattle.frame_codec.proofs.FrameStores.{rest-lent}
 use borrow.Author.Needs.{needs}
 use Rattle.frame_read.proofs.read_frame.Statement.{statement}
@@ -39,8 +39,9 @@ part-fields-of-end c = search needs
 
 fields-of-requires : tie.Need-fields-of-requires
 fields-of-requires c κs =
+    let n = c .before .before .before .before .before .args .n in
     let s = now (c .before .before .before .before .before .args .bytes) in
-    rw (rest-lent 2 s) (simp length-drop (omega (arith, fine (c .before) .size)))
+    rw (rest-lent 2 s) (simp length-drop (omega (arith, fine (c .before) .size, head-least (kindBy n s))))
 
 returns : tie.Need-returns
 returns c = rw (← sym (c .before .r .given .1) ∙ c .before .before .before .read-verdict .ensures)

@@ -21,6 +21,9 @@ enum-told-2 c = search needs
 enum-known-a-2 : tie.Need-enum-known-a-2
 enum-known-a-2 c = search needs
 
+enum-known-a-3 : tie.Need-enum-known-a-3
+enum-known-a-3 c = search needs
+
 returns : tie.Need-returns
 returns c = search needs
 
@@ -33,6 +36,9 @@ returns-3 c = search needs
 returns-4 : tie.Need-returns-4
 returns-4 c = ap movedAs (sym (c .before .a2 .given .1))
 
+returns-5 : tie.Need-returns-5
+returns-5 c = ap movedAs (sym (c .before .a3 .given .1))
+
 pub moved-spec : {M : Type 1} → statement M
 moved-spec =
     tie.close
@@ -42,7 +48,9 @@ moved-spec =
     loss-number-requires
     enum-told-2
     enum-known-a-2
+    enum-known-a-3
     returns
     returns-2
     returns-3
-    returns-4)
+    returns-4
+    returns-5)

@@ -62,6 +62,9 @@ enum-told-16 c = search needs
 enum-told-17 : tie.Need-enum-told-17
 enum-told-17 c = search needs
 
+enum-told-18 : tie.Need-enum-told-18
+enum-told-18 c = search needs
+
 returns : tie.Need-returns
 returns c = search told
 
@@ -113,6 +116,9 @@ returns-16 c = search told
 returns-17 : tie.Need-returns-17
 returns-17 c = search told
 
+returns-18 : tie.Need-returns-18
+returns-18 c = search told
+
 pub refusal-code-spec : {M : Type 1} → statement M
 refusal-code-spec =
     tie.close
@@ -134,6 +140,7 @@ refusal-code-spec =
     enum-told-15
     enum-told-16
     enum-told-17
+    enum-told-18
     returns
     returns-2
     returns-3
@@ -150,4 +157,5 @@ refusal-code-spec =
     returns-14
     returns-15
     returns-16
-    returns-17)
+    returns-17
+    returns-18)

@@ -62,7 +62,8 @@ returns c =
     (cell .put-right .ensures .1) (cell .put-right .ensures .0 ∙ ap (λ n. a .at + n) (sym two))
     (splice-behind (cell .put-right .last .0) _ (space ∷ []) (text ++ countColumns (a .k)) (gap .put-byte .ensures .1)
     (gap .put-byte .ensures .0)
-    (splice-behind (gap .put-byte .last .0) _ text (countColumns (a .k)) (rw (add-one i) at (loss .put-right2 .ensures .1))
+    (splice-behind (gap .put-byte .last .0) _ text (countColumns (a .k))
+    (rw (add-one i) at (loss .put-right2 .ensures .1))
     (loss .put-right2 .ensures .0 ∙ ap (λ n. gap .put-byte .result + n) (sym one)) (numbers .put-counts .ensures)))
 
 pub put-loss-line-spec : {M : Type 1} → statement M

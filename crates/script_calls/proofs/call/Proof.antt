@@ -52,16 +52,19 @@ returns c =
     rw (made .before .before .before .before .r .given .1) (rw (c .ticked .ensures) (e .0), (refl, e .1))
 
 same-length-2 : tie.Need-same-length-2
-same-length-2 c = c .before .before .before .dump .kept .1 .0
+same-length-2 c = c .before .before .before .before .before .dump .kept .1 .0
+
+same-length-3 : tie.Need-same-length-3
+same-length-3 c = c .before .before .before .before .before .dump .kept .1 .1 .1 .1 .1 .1 .0
 
 returns-2 : tie.Need-returns-2
 returns-2 c =
-    let made = c .before .before .before in
+    let made = c .before .before .before .before .before in
     let e = made .dump .ensures in
-    rw (made .before .before .before .r2 .given .1) (rw (c .moved .ensures) (e .0), (refl, e .1))
+    rw (made .before .before .before .before .r2 .given .1) (rw (c .moved .ensures) (e .0), e .1)
 
-same-length-3 : tie.Need-same-length-3
-same-length-3 c = c .before .before .before .integrate .kept .1 .0
+same-length-4 : tie.Need-same-length-4
+same-length-4 c = c .before .before .before .integrate .kept .1 .0
 
 returns-3 : tie.Need-returns-3
 returns-3 c =
@@ -69,11 +72,11 @@ returns-3 c =
     let e = made .integrate .ensures in
     rw (made .before .before .before .r3 .given .1) (rw (c .moved2 .ensures) (e .0), (refl, e .1))
 
-same-length-4 : tie.Need-same-length-4
-same-length-4 c = c .before .before .before .before .before .emit .kept .1 .0
-
 same-length-5 : tie.Need-same-length-5
-same-length-5 c = c .before .before .before .before .before .emit .kept .1 .1 .1 .1 .1 .0
+same-length-5 c = c .before .before .before .before .before .emit .kept .1 .0
+
+same-length-6 : tie.Need-same-length-6
+same-length-6 c = c .before .before .before .before .before .emit .kept .1 .1 .1 .1 .1 .0
 
 returns-4 : tie.Need-returns-4
 returns-4 c =
@@ -101,9 +104,10 @@ call-spec =
     same-length
     returns
     same-length-2
-    returns-2
     same-length-3
-    returns-3
+    returns-2
     same-length-4
+    returns-3
     same-length-5
+    same-length-6
     returns-4)

@@ -1,40 +1,33 @@
--- An emission prints its frame, and every other record its answer.
-use Prim.Native.Nat.{ℕ}
-use mathlib.Core.Path.{_≡_, refl, sym, ap}
-use mathlib.Core.List.{List, [], _∷_}
-use mathlib.Core.Logic.{⊎-elim}
-use native.Mathlib.Omega.{arith}
+-- A record whose call leaves a frame prints its words, and every other record its answer.
+use mathlib.Core.Path.{_≡_, sym, ap, _∙_}
+use mathlib.Core.List.{[], _∷_}
 use lib.IntN.{pos}
-use types.Run.{OneOf}
 use denote.Ref.{now}
-use denote.Enum.Declared.{tagOf}
-use Rattle.script_records.specs.declared.Record.{Record}
-use Rattle.script_records.proofs.Record.{the-type}
-use Rattle.script_records.specs.declared.Record.the-variants as kind
-use Rattle.script_lines.specs.Lines.{spaced, valueFields}
+use borrow.Author.Tests.{eq-eqb, ne-eqb}
+use Rattle.script_lines.specs.Lines.{spaced, frameFields, valueFields}
 use Rattle.script_lines.proofs.PutLaws.{same-room, same-put}
 use borrow.Author.Needs.{needs}
 use Rattle.script_lines.proofs.put_value.Statement.{statement}
 use Rattle.script_lines.proofs.put_value.Tie as tie
 
--- behind `else` stand the other kinds
-no-emission : (r : Record) (k : ℕ) (out : List ℕ) → OneOf (0 ∷ 1 ∷ 2 ∷ []) (tagOf the-type r)
-    → valueFields r k out ≡ pos k ∷ []
-no-emission (kind.Tick x y) k out h = refl
-no-emission (kind.Dump d) k out h = refl
-no-emission (kind.Integrate cell) k out h = refl
-no-emission (kind.Emit e) k out h =
-    absurd (⊎-elim (λ i. omega (arith, i)) (λ i. ⊎-elim (λ j. omega (arith, j)) (λ j. omega (arith, j)) i) h)
+-- no frame, and a frame
+answered : (c : tie.Then1) → let a = c .before .before .before .before .args in
+    valueFields (a .r) (a .k) (now (a .frame)) ≡ pos (a .k) ∷ []
+answered c = rw (eq-eqb _ 0 (sym (c .before .sent-kind .ensures) ∙ c .if1 .taken))
 
-enum-told : tie.Need-enum-told
-enum-told c = search needs
+framed : (c : tie.Else1) → let a = c .before .before .before .before .args in
+    valueFields (a .r) (a .k) (now (a .frame)) ≡ frameFields (c .before .sent-kind .result) (now (a .frame))
+framed c =
+    let sent = c .before .sent-kind .ensures in
+    rw (ne-eqb _ 0 (λ e. c .if1 .left (sent ∙ e)), ← sent)
+
+sent-kind-requires : tie.Need-sent-kind-requires
+sent-kind-requires c κs = search needs
 
 put-field-requires : tie.Need-put-field-requires
 put-field-requires c κs =
-    let s = c .before .before .before .before in
-    let a = s .args in
-    let fields = no-emission (a .r) (a .k) (now (a .frame)) (c .before .match .keys2) in
-    same-room (now (a .lines)) (a .at) (ap spaced fields) (s .pre .1)
+    let s = c .before .before .before .before .before in
+    same-room (now (s .args .lines)) (s .args .at) (ap spaced (answered (c .before))) (s .pre .1)
 
 same-length : tie.Need-same-length
 same-length c = search needs
@@ -42,17 +35,14 @@ same-length c = search needs
 returns : tie.Need-returns
 returns c =
     let put = c .before .before in
-    let kinds = put .before .before in
-    let a = kinds .before .before .before .args in
-    let fields = no-emission (a .r) (a .k) (now (a .frame)) (kinds .match .keys2) in
-    same-put (now (a .lines)) (a .at) (ap spaced (sym fields)) (put .put-field .ensures)
+    let i = put .before .before in
+    let a = i .before .before .before .before .args in
+    same-put (now (a .lines)) (a .at) (ap spaced (sym (answered i))) (put .put-field .ensures)
 
 put-frame-requires : tie.Need-put-frame-requires
 put-frame-requires c κs =
     let s = c .before .before .before .before .before in
-    let a = s .args in
-    let fields = ap (λ r. spaced (valueFields r (a .k) (now (a .frame)))) (c .before .enum-told .given .1) in
-    (s .pre .0, same-room (now (a .lines)) (a .at) fields (s .pre .1))
+    (s .pre .0, same-room (now (s .args .lines)) (s .args .at) (ap spaced (framed (c .before))) (s .pre .1))
 
 same-length-2 : tie.Need-same-length-2
 same-length-2 c = search needs
@@ -60,16 +50,15 @@ same-length-2 c = search needs
 returns-2 : tie.Need-returns-2
 returns-2 c =
     let put = c .before .before in
-    let told = put .before .before in
-    let a = told .before .before .before .before .args in
-    let fields = ap (λ r. spaced (valueFields r (a .k) (now (a .frame)))) (told .enum-told .given .1) in
-    same-put (now (a .lines)) (a .at) (sym fields) (put .put-frame .ensures)
+    let i = put .before .before in
+    let a = i .before .before .before .before .args in
+    same-put (now (a .lines)) (a .at) (ap spaced (sym (framed i))) (put .put-frame .ensures)
 
 pub put-value-spec : {M : Type 1} → statement M
 put-value-spec =
     tie.close
     (tie.spec
-    enum-told
+    sent-kind-requires
     put-field-requires
     same-length
     returns

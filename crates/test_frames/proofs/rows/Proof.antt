@@ -5,10 +5,10 @@ use Rattle.test_frames.proofs.rows.Statement.{statement}
 use Rattle.test_frames.proofs.rows.Tie as tie
 
 abbrev Inv-loop : tie.InvT-loop
-Inv-loop g n end t₀ i₀ t i = Unit {0}
+Inv-loop g kind n end t₀ i₀ t i = Unit {0}
 
 abbrev μ-loop : tie.MeasureT-loop
-μ-loop g n end t₀ i₀ t i = end - i
+μ-loop g kind n end t₀ i₀ t i = end - i
 
 size-requires : tie.Need-size-requires Inv-loop μ-loop
 size-requires c κs = search needs

@@ -2,7 +2,8 @@
 use mathlib.Core.Path.{ap, _∙_}
 use denote.Ref.{now}
 use Rattle.lta_c.proofs.PackLaws.{tells}
-use Rattle.lta_spec.specs.Step.{step}
+use Rattle.lta_spec.specs.Step.{Step, step}
+use Rattle.lta_spec.specs.declared.Shape.{Shape}
 use Rattle.lta_spec.specs.Call.Call.{dump}
 use borrow.Author.Needs.{needs}
 use Rattle.lta_c.proofs.run.lta_dump.Statement.{statement}
@@ -23,17 +24,30 @@ pack-requires c κs = search needs
 same-length : tie.Need-same-length
 same-length c = search needs
 
+same-length-2 : tie.Need-same-length-2
+same-length-2 c = search needs
+
 returns : tie.Need-returns
 returns c =
-    let a = c .before .before .before .before .before .before .before .before .before .args in
-    let e = c .before .before .before .before .dump .ensures in
-    let same = c .before .before .before .before .before .before .shape-of .ensures in (
-      tells (λ s. (step s (dump (a .cell) (a .command) (a .bank) (a .phase)) (now (a .mem))) .answer)
-          (c .pack .ensures) (c .before .moved .ensures) (e .0) same,
-      e .1 ∙ ap (λ s. (step s (dump (a .cell) (a .command) (a .bank) (a .phase)) (now (a .mem))) .mem) same,
+    let called = c .before .before .before .before .before .before in
+    let shaped = called .before .before .before in
+    let a = shaped .before .before .before .before .args in
+    let e = called .dump .ensures in
+    let same = shaped .shape-of .ensures in
+    let call = dump (a .cell) (a .command) (a .bank) (a .phase) (now (a .out)) in
+    let at : Shape → Step = λ s. step s call (now (a .mem)) in (
+      tells (λ s. (at s) .answer) (c .pack .ensures) (c .before .moved .ensures) (e .0) same,
+      (e .1 .0 ∙ ap (λ s. (at s) .out) same, e .1 .1 ∙ ap (λ s. (at s) .mem) same),
     )
 
 pub lta-dump-spec : {M : Type 1} → statement M
 lta-dump-spec =
     tie.close
-    (tie.spec shape-of-requires dump-requires moved-requires pack-requires same-length returns)
+    (tie.spec
+    shape-of-requires
+    dump-requires
+    moved-requires
+    pack-requires
+    same-length
+    same-length-2
+    returns)

@@ -7,10 +7,10 @@ use Rattle.test_frames.proofs.example.example.Statement.{statement}
 use Rattle.test_frames.proofs.example.example.Tie as tie
 
 abbrev Inv-loop : tie.InvT-loop
-Inv-loop s₀ k₀ t3 s k = length s ≡ length s₀
+Inv-loop s₀ kind k₀ s k = length s ≡ length s₀
 
 abbrev μ-loop : tie.MeasureT-loop
-μ-loop s₀ k₀ t3 s k = 12 - k
+μ-loop s₀ kind k₀ s k = 13 - k
 
 put-requires : tie.Need-put-requires Inv-loop μ-loop
 put-requires c κs = search needs
@@ -21,11 +21,8 @@ put-requires-2 c κs = search needs
 loop-holds : tie.Need-loop-holds Inv-loop μ-loop
 loop-holds c = search needs
 
-slice-aggregate-get : tie.Need-slice-aggregate-get Inv-loop μ-loop
-slice-aggregate-get c = search needs
-
-get-requires : tie.Need-get-requires Inv-loop μ-loop
-get-requires c κs = search needs
+word-requires : tie.Need-word-requires Inv-loop μ-loop
+word-requires c κs = search needs
 
 word-of-requires : tie.Need-word-of-requires Inv-loop μ-loop
 word-of-requires c κs = search needs
@@ -57,8 +54,7 @@ example-spec =
     put-requires
     put-requires-2
     loop-holds
-    slice-aggregate-get
-    get-requires
+    word-requires
     word-of-requires
     put-word-requires
     add-k

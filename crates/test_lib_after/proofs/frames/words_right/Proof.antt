@@ -5,10 +5,10 @@ use Rattle.test_lib_after.proofs.frames.words_right.Statement.{statemen
 use Rattle.test_lib_after.proofs.frames.words_right.Tie as tie
 
 abbrev Inv-loop : tie.InvT-loop
-Inv-loop words s k out end ok₀ j₀ ok j = Unit {0}
+Inv-loop set s h out end ok₀ j₀ ok j = Unit {0}
 
 abbrev μ-loop : tie.MeasureT-loop
-μ-loop words s k out end ok₀ j₀ ok j = end - j
+μ-loop set s h out end ok₀ j₀ ok j = end - j
 
 last-requires : tie.Need-last-requires Inv-loop μ-loop
 last-requires c κs = search needs

@@ -12,6 +12,9 @@ Inv-loop s₀ n code end k₀ s k = length s ≡ length s₀
 abbrev μ-loop : tie.MeasureT-loop
 μ-loop s₀ n code end k₀ s k = end - k
 
+kind-of-requires : tie.Need-kind-of-requires Inv-loop μ-loop
+kind-of-requires c κs = search needs
+
 last-requires : tie.Need-last-requires Inv-loop μ-loop
 last-requires c κs = search needs
 
@@ -45,6 +48,7 @@ fill-spec =
     (tie.spec
     Inv-loop
     μ-loop
+    kind-of-requires
     last-requires
     loop-holds
     frame-word-requires

@@ -5,10 +5,10 @@ use Rattle.test_lib_numbers.proofs.frames.words_right.Statement.{statem
 use Rattle.test_lib_numbers.proofs.frames.words_right.Tie as tie
 
 abbrev Inv-loop : tie.InvT-loop
-Inv-loop m c bank bin out end ok₀ j₀ ok j = Unit {0}
+Inv-loop m h p out end ok₀ j₀ ok j = Unit {0}
 
 abbrev μ-loop : tie.MeasureT-loop
-μ-loop m c bank bin out end ok₀ j₀ ok j = end - j
+μ-loop m h p out end ok₀ j₀ ok j = end - j
 
 lags-requires : tie.Need-lags-requires Inv-loop μ-loop
 lags-requires c κs = search needs

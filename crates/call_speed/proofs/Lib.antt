@@ -1,0 +1,2 @@
+-- Laws of a speed dump on one cell's words.
+pub mod SpeedLaws

@@ -1,0 +1,2 @@
+-- What the contracts of a speed dump cite.
+pub mod Sending
