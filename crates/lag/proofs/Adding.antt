@@ -10,11 +10,11 @@ use Rattle.lta_spec.specs.Size.{depth}
 use Rattle.lta_spec.specs.Row.{lagRow, tickRow}
 use Rattle.lag_registers.specs.Registers.{Registers}
 use Rattle.lag_terms.specs.Terms.{lagTerms}
-use Rattle.lag_counts.specs.Counts.{entriesAt, tickCounts, Ready}
-use Rattle.lag.specs.Lag.{ticked}
+use Rattle.lag_counts.specs.Counts.{flagCounts}
+use Rattle.lag.specs.Lag.{entriesAt, tickCounts, Ready, ticked}
 use Rattle.lag.proofs.Loops.{getD-behind, added-append}
 use Rattle.lag.proofs.RowLaws.{length-lagRow, lagRow-small}
-use Rattle.lag.proofs.Decoding.{terms-are}
+use Rattle.lag.proofs.Decoding.{terms-are, counts-are}
 
 module _ (l : List ℕ) (x y to n : ℕ) (p : Ready l x y to n) where
   abbrev counts : List ℕ
@@ -35,13 +35,17 @@ module _ (l : List ℕ) (x y to n : ℕ) (p : Ready l x y to n) where
         rw (← add-assoc to 3 i) at (p .room (3 + i) (omega arith)),
       ))
 
-  module _ {xs ys k : List ℕ} (r : Registers l x y n xs ys) (k-is : k ≡ splice l to (sums (part to 3 l) counts)) where
+  module _ {xs ys k : List ℕ} (r : Registers l x y n xs ys)
+      (counted : k ≡ splice l to (sums (part to 3 l) (flagCounts n xs ys))) where
+    k-is : k ≡ splice l to (sums (part to 3 l) counts)
+    k-is = counted ∙ rw (counts-are l x y n xs ys r)
+
     pub terms-fit : (i : ℕ) → i < 4 * (n / 2)
-        → getD k (to + 3 + i) 0 + getD (lagTerms xs ys (n / 2)) i 0 < 2 ^ 64
+        → getD k (to + 3 + i) 0 + getD (lagTerms xs ys (depth n) (n / 2)) i 0 < 2 ^ 64
     terms-fit i h = rw (k-is, terms-are l x y n xs ys r (p .even)) (fits i (omega (arith, p .even)))
 
     pub row-added : {e : List ℕ}
-        → e ≡ splice k (to + 3) (sums (part (to + 3) (4 * (n / 2)) k) (lagTerms xs ys (n / 2)))
+        → e ≡ splice k (to + 3) (sums (part (to + 3) (4 * (n / 2)) k) (lagTerms xs ys (depth n) (n / 2)))
         → e ≡ ticked l x y to n
     unfolding tickRow
     row-added e-is =

@@ -1,48 +1,52 @@
--- Registers that were read decoded: the lag loop may read them, and its terms are the tick's.
-use mathlib.Core.Path.{_≡_, sym, ap, _∙_}
-use mathlib.Core.List.{List}
+-- Registers that were read decoded: the terms of the lag loop and the counts are the tick's.
+use mathlib.Core.Path.{_≡_, sym, ap, ap₂, _∙_}
+use mathlib.Core.Bool.{cond}
+use mathlib.Core.List.{List, [], _∷_}
 use Prim.Native.Nat.{ℕ, _*_, _-_, _/_, _≤_}
 use native.Mathlib.Omega.{arith}
-use lib.ListN.{length, getD}
 use Rattle.lta_spec.specs.Words.{part}
 use Rattle.lta_spec.specs.Size.{depth}
+use Rattle.lta_spec.specs.Tick.{xDelay, yDelay, validAt, edgeLag, centreLag}
 use Rattle.lta_spec.specs.Row.{lagRow}
-use Rattle.signal.proofs.SignalLaws.{digits}
-use Rattle.lag_registers.specs.Registers.{Registers}
-use Rattle.lag_registers.proofs.Decoding.{digit-of-packed, phase-of-packed}
-use Rattle.lag_terms.specs.Terms.{Decoded, lagTerm, lagTerms}
-use Rattle.lag_counts.specs.Counts.{entriesAt}
-use Rattle.lag.proofs.RowLaws.{stored, lagTerms-are}
+use Rattle.signal.specs.Decoded.{xPlace, yPlace}
+use Rattle.signal.proofs.SignalLaws.{flags-are}
+use Rattle.lag_registers.specs.Registers.{entryAt, Registers}
+use Rattle.lag_terms.specs.Terms.{lagTerm, lagTerms}
+use Rattle.lag_counts.specs.Counts.{lagFlag, flagCounts}
+use Rattle.lag.specs.Lag.{entriesAt, tickCounts}
+use Rattle.lag.proofs.RowLaws.{ago-is, stored, lagTerms-are}
 
 module _ (l : List ℕ) (x y n : ℕ) (xs ys : List ℕ) (r : Registers l x y n xs ys) where
-  pub decoded : n ≤ 128 → depth n ≤ length xs → depth n ≤ length ys → Decoded xs ys (n / 2)
-  decoded most hx hy =
-      record {
-        few = omega arith;
-        meets = λ i j hi hj.
-            let u : ℕ = getD (part x (depth n) l) i 0 in
-            let v : ℕ = getD (part y (depth n) l) (n / 2 - j) 0 in
-            record {
-              x-in = omega arith;
-              y-in = omega arith;
-              digits =
-                  rw (r .x-is i hi, r .y-is j hj) (rw (digit-of-packed u, digit-of-packed v) (digits u v));
-              phases =
-                  rw (r .x-is i hi, r .y-is j hj) (rw (phase-of-packed u, phase-of-packed v)
-                  record { first = omega arith; second = omega arith; third = omega arith });
-            };
-      }
-
-  pub terms-are : n ≡ 2 * (n / 2) → lagTerms xs ys (n / 2) ≡ lagRow n (entriesAt n x l) (entriesAt n y l) n 0
+  pub terms-are : n ≡ 2 * (n / 2)
+      → lagTerms xs ys (depth n) (n / 2) ≡ lagRow n (entriesAt n x l) (entriesAt n y l) n 0
   terms-are even =
       let us : List ℕ = part x (depth n) l in
       let vs : List ℕ = part y (depth n) l in
       let same : (i j turn : ℕ) → i ≤ n / 2 → j ≤ n / 2
-      → lagTerm xs ys i j turn ≡ stored n us vs i (n / 2 - j) turn =
+      → lagTerm xs ys (depth n) i j turn ≡ stored n us vs i (n / 2 - j) turn =
       λ i j turn hi hj.
-      let u : ℕ = getD us i 0 in
-      let v : ℕ = getD vs (n / 2 - j) 0 in
-      rw (r .x-is i hi, r .y-is j hj)
-      (rw (digit-of-packed u, digit-of-packed v, phase-of-packed u, phase-of-packed v)) in
-      lagTerms-are n us vs xs ys (n / 2) even same (n / 2) (omega arith)
+      rw (
+        r .x-is .sample i (omega arith),
+        r .x-is .phase i (omega arith),
+        r .y-is .sample j (omega arith),
+        r .y-is .phase j (omega arith),
+      ) in
+      lagTerms-are n us vs xs ys (depth n) (n / 2) even same (n / 2) (omega arith)
       ∙ ap (λ (m : ℕ). lagRow n (entriesAt n x l) (entriesAt n y l) m 0) (sym even)
+
+  flag-is : (k : ℕ) → k ≤ n / 2 → lagFlag n xs ys k ≡ cond (validAt n (entriesAt n x l) (entriesAt n y l) k) 1 0
+  unfolding validAt
+  flag-is k h =
+      let back : n / 2 - yPlace n k ≡ yDelay n 0 k = omega arith in
+      rw (
+        r .x-is .valid (xPlace k) (omega arith),
+        r .y-is .valid (yPlace n k) (omega arith),
+        back,
+        ago-is (part x (depth n) l) (xDelay 0 k),
+        ago-is (part y (depth n) l) (yDelay n 0 k),
+      )
+      (flags-are (entryAt l x n (xDelay 0 k)) (entryAt l y n (yDelay n 0 k)))
+
+  pub counts-are : flagCounts n xs ys ≡ tickCounts n (entriesAt n x l) (entriesAt n y l)
+  counts-are =
+      ap₂ (λ (e c : ℕ). 1 ∷ e ∷ c ∷ []) (flag-is edgeLag (omega arith)) (flag-is (centreLag n) (omega arith))

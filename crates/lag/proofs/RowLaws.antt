@@ -4,13 +4,18 @@ use mathlib.Core.List.{List, [], _∷_, _++_, map}
 use Prim.Native.Nat.{ℕ, zero, suc, _+_, _*_, _-_, _≤_}
 use native.Mathlib.Nat.{add-zero}
 use native.Mathlib.Omega.{arith}
-use lib.ListN.{length, getD}
-use Rattle.lta_spec.specs.Tick.{Entry, xDelay, yDelay, inPhaseAt, quadratureAt}
+use lib.ListN.{length, getD, List·getD-map}
+use Rattle.lta_spec.specs.Tick.{Entry, ago, xDelay, yDelay, inPhaseAt, quadratureAt}
 use Rattle.lta_spec.specs.Row.{biased, fromWord, lagRow}
-use Rattle.signal.specs.Signal.{digit, phase, contribution}
-use Rattle.signal.proofs.SignalLaws.{digits, contribution-small, in-phase-is, quadrature-is}
+use Rattle.lta_spec.specs.Shape.{peak}
+use Rattle.signal.specs.Signal.{turnI, turnQ}
+use Rattle.signal.proofs.SignalLaws.{adds, in-phase-is, in-phase-small, quadrature-is, quadrature-small}
 use Rattle.lag_terms.specs.Terms.{lagTerm, lagPair, lagTerms}
-use Rattle.lag_counts.proofs.CountLaws.{ago-is}
+
+-- an entry of a stored register; what lies past its end reads as no sample, as a cleared word does
+pub ago-is : (ws : List ℕ) (d : ℕ) → ago (map fromWord ws) d ≡ fromWord (getD ws d 0)
+unfolding fromWord
+ago-is ws d = List·getD-map fromWord ws d 0
 
 join : {ps qs us vs : List ℕ} → ps ≡ qs → us ≡ vs → ps ++ us ≡ qs ++ vs
 join e f = cc
@@ -34,41 +39,37 @@ module _ (n : ℕ) (xs ys : List Entry) where
 -- the row of two stored registers
 module _ (n : ℕ) (us vs : List ℕ) where
   abbrev pub stored : (i j turn : ℕ) → ℕ
-  stored i j turn =
-      contribution (digit (getD us i 0)) (phase (getD us i 0)) (digit (getD vs j 0)) (phase (getD vs j 0)) turn
-
-  stored-small : (i j turn : ℕ) → stored i j turn ≤ 196
-  stored-small i j turn = contribution-small _ _ _ _ turn (digits (getD us i 0) (getD vs j 0))
+  stored i j turn = adds (getD us i 0) (getD vs j 0) turn
 
   rowPair-is : (k : ℕ)
       → rowPair n (map fromWord us) (map fromWord vs) k
-      ≡ stored (xDelay k) (yDelay n k) 0 ∷ stored (xDelay k) (yDelay n k) 12 ∷ []
+      ≡ stored (xDelay 0 k) (yDelay n 0 k) turnI ∷ stored (xDelay 0 k) (yDelay n 0 k) turnQ ∷ []
   unfolding inPhaseAt quadratureAt
   rowPair-is k =
-      let x : ℕ = getD us (xDelay k) 0 in
-      let y : ℕ = getD vs (yDelay n k) 0 in
-      rw (ago-is us (xDelay k), ago-is vs (yDelay n k), ← in-phase-is x y, ← quadrature-is x y)
+      let x : ℕ = getD us (xDelay 0 k) 0 in
+      let y : ℕ = getD vs (yDelay n 0 k) 0 in
+      rw (ago-is us (xDelay 0 k), ago-is vs (yDelay n 0 k), ← in-phase-is x y, ← quadrature-is x y)
 
-  pub lagRow-small : (m k i : ℕ) → getD (lagRow n (map fromWord us) (map fromWord vs) m k) i 0 ≤ 196
+  pub lagRow-small : (m k i : ℕ) → getD (lagRow n (map fromWord us) (map fromWord vs) m k) i 0 ≤ 2 * peak
   lagRow-small zero k i = omega arith
   lagRow-small (suc m) k zero =
       let e = ap (λ (r : List ℕ). getD r 0 0) (rowPair-is k) in
-      omega (arith, e, stored-small (xDelay k) (yDelay n k) 0)
+      omega (arith, e, in-phase-small (getD us (xDelay 0 k) 0) (getD vs (yDelay n 0 k) 0))
   lagRow-small (suc m) k (suc zero) =
       let e = ap (λ (r : List ℕ). getD r 1 0) (rowPair-is k) in
-      omega (arith, e, stored-small (xDelay k) (yDelay n k) 12)
+      omega (arith, e, quadrature-small (getD us (xDelay 0 k) 0) (getD vs (yDelay n 0 k) 0))
   lagRow-small (suc m) k (suc (suc i)) = lagRow-small m (suc k) i
 
   -- decoded registers of N = 2h lags: X newest first, Y oldest first
-  module _ (gs hs : List ℕ) (h : ℕ) (even : n ≡ 2 * h)
-      (same : (i j turn : ℕ) → i ≤ h → j ≤ h → lagTerm gs hs i j turn ≡ stored i (h - j) turn) where
-    lagPair-is : (i j k : ℕ) → i ≤ h → j ≤ h → xDelay k ≡ i → yDelay n k ≡ h - j
-        → rowPair n (map fromWord us) (map fromWord vs) k ≡ lagPair gs hs i j
+  module _ (gs hs : List ℕ) (m h : ℕ) (even : n ≡ 2 * h)
+      (same : (i j turn : ℕ) → i ≤ h → j ≤ h → lagTerm gs hs m i j turn ≡ stored i (h - j) turn) where
+    lagPair-is : (i j k : ℕ) → i ≤ h → j ≤ h → xDelay 0 k ≡ i → yDelay n 0 k ≡ h - j
+        → rowPair n (map fromWord us) (map fromWord vs) k ≡ lagPair gs hs m i j
     lagPair-is i j k hi hj ex ey =
-        rowPair-is k ∙ rw (ex, ey) (rw (same i j 0 hi hj, same i j 12 hi hj))
+        rowPair-is k ∙ rw (ex, ey) (rw (same i j turnI hi hj, same i j turnQ hi hj))
 
     pub lagTerms-are : (j : ℕ) → j ≤ h
-        → lagTerms gs hs j ≡ lagRow n (map fromWord us) (map fromWord vs) (2 * j) 0
+        → lagTerms gs hs m j ≡ lagRow n (map fromWord us) (map fromWord vs) (2 * j) 0
     lagTerms-are zero hj = refl
     lagTerms-are (suc j) hj =
         let k = 2 * j in

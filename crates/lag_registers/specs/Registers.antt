@@ -1,11 +1,12 @@
 -- Shift registers as they are read: gathered in small words, and decoded.
 use mathlib.Core.Path.{_≡_}
 use mathlib.Core.List.{List, [], _∷_, _++_}
-use Prim.Native.Nat.{ℕ, zero, suc, _+_, _*_, _-_, _/_, _%_, _≤_}
+use Prim.Native.Nat.{ℕ, zero, suc, _+_, _-_, _/_, _%_, _<_}
 use lib.ListN.{getD}
 use Rattle.lta_spec.specs.Words.{part, splice}
 use Rattle.lta_spec.specs.Size.{depth}
-use Rattle.signal.specs.Signal.{digit, phase}
+use Rattle.signal.specs.Signal.{sampleOf, phaseOf, validOf}
+use Rattle.signal.specs.Decoded.{sampleIn, phaseIn, flagIn, ZeroWhereInvalid}
 
 -- f 0 to f (m - 1), as a loop going up writes them
 abbrev pub listed : (f : ℕ → ℕ) (m : ℕ) → List ℕ
@@ -24,14 +25,28 @@ wordAt l at j = getD l (at + j) 0 % 65536
 abbrev pub wordBack : (l : List ℕ) (at m j : ℕ) → ℕ
 wordBack l at m j = wordAt l at (m - 1 - j)
 
--- a decoded entry in one small word: its digit and 16 × its phase
-abbrev pub packed : (w : ℕ) → ℕ
-packed w = digit w + 16 * phase w
+-- word j of a list
+abbrev pub word : (ws : List ℕ) (j : ℕ) → ℕ
+word ws j = getD ws j 0
 
-abbrev pub packedOf : (ws : List ℕ) (j : ℕ) → ℕ
-packedOf ws j = packed (getD ws j 0)
+-- the first k of m stored entries w 0, w 1, .. are decoded in ws
+pub record Decodes (w : ℕ → ℕ) (m k : ℕ) (ws : List ℕ) : Type 0 where
+  pub sample : (i : ℕ) → i < k → sampleIn ws i ≡ sampleOf (w i)
+  pub phase : (i : ℕ) → i < k → phaseIn m ws i ≡ phaseOf (w i)
+  pub valid : (i : ℕ) → i < k → flagIn m ws i ≡ validOf (w i)
+
+-- What decoding leaves of an invalid entry, whatever was stored. proofs/Decoding.antt proves it.
+pub record DecodedZero : Type 0 where
+  pub zero : (w : ℕ → ℕ) (m : ℕ) (ws : List ℕ) → Decodes w m m ws → ZeroWhereInvalid m ws
+
+-- the stored entry of i ticks ago of a register of n lags, and entry j of it, oldest first
+abbrev pub entryAt : (l : List ℕ) (at n i : ℕ) → ℕ
+entryAt l at n i = getD (part at (depth n) l) i 0
+
+abbrev pub entryBack : (l : List ℕ) (at n j : ℕ) → ℕ
+entryBack l at n j = entryAt l at n (n / 2 - j)
 
 -- the registers of n lags at x and y, decoded: X newest first, Y oldest first
 pub record Registers (l : List ℕ) (x y n : ℕ) (xs ys : List ℕ) : Type 0 where
-  pub x-is : (i : ℕ) → i ≤ n / 2 → getD xs i 0 ≡ packed (getD (part x (depth n) l) i 0)
-  pub y-is : (j : ℕ) → j ≤ n / 2 → getD ys j 0 ≡ packed (getD (part y (depth n) l) (n / 2 - j) 0)
+  pub x-is : Decodes (entryAt l x n) (depth n) (depth n) xs
+  pub y-is : Decodes (entryBack l y n) (depth n) (depth n) ys

@@ -1,15 +1,16 @@
 // The shift registers of a cell: they take a sampler byte, and are read decoded, Y the other way round, so that lag 2j
 // is X[j] · Y[j] and lag 2j + 1 is X[j + 1] · Y[j].
-use signal::digit_of;
 use signal::phase_of;
+use signal::sample_of;
+use signal::valid_of;
 ghost use mathlib.Core.Path.{_≡_};
 ghost use mathlib.Core.List.{_∷_};
-ghost use Prim.Native.Nat.{_+_, _≤_};
+ghost use Prim.Native.Nat.{_+_, _*_, _≤_};
 ghost use lib.ListN.{length, take};
 ghost use Rattle.lta_spec.specs.Words.{part, splice};
 ghost use Rattle.lta_spec.specs.Size.{depth};
 ghost use Rattle.lta_spec.specs.Row.{entryWord};
-ghost use Rattle.lag_registers.specs.Registers.{filled, wordAt, wordBack, packedOf, Registers};
+ghost use Rattle.lag_registers.specs.Registers.{filled, wordAt, wordBack, word, Decodes, Registers};
 
 // A sampler byte as a shift register keeps it: sample + 8, 0 where it is invalid, and 16 × phase.
 fn entry(byte: u8) -> u64
@@ -54,24 +55,26 @@ fn gather(s: &[u64], x: usize, y: usize, m: usize, xs: &mut [u16], ys: &mut [u16
     }
 }
 
-// Decodes m gathered entries in their places. In the loop above, which reads wide words, it would run on two at a time
-// instead of eight.
+// Decodes m gathered entries: samples in their places, phases in the m words behind them, and then validity. In the
+// loop above, which reads wide words, it would run on two at a time instead of eight.
 fn decode(ws: &mut [u16], m: usize)
-    requires { ⌜ m ≤ length (now ws) ⌝ }
-    ensures { λ _. ⌜ now (ws .exit) ≡ filled (now (ws .entry)) (packedOf (now (ws .entry))) m ⌝ }
+    requires { ⌜ 3 * m ≤ length (now ws) ⌝ }
+    ensures { λ _. ⌜ Decodes (word (now (ws .entry))) m m (now (ws .exit)) ⌝ }
 {
     let mut j: usize = 0;
     while j < m {
         let w = ws[j];
-        ws[j] = digit_of(w) + 16 * phase_of(w);
+        ws[j] = sample_of(w);
+        ws[m + j] = phase_of(w);
+        ws[2 * m + j] = valid_of(w);
         j += 1;
     }
 }
 
-// Reads the registers of n lags at x and y, decoded.
+// Reads the registers of n lags at x and y, each entry decoded once.
 pub fn read_registers(s: &[u64], x: usize, y: usize, n: usize, xs: &mut [u16], ys: &mut [u16])
-    requires { ⌜ (x + depth n ≤ length (now s)) × (y + depth n ≤ length (now s)) × (depth n ≤ length (now xs))
-        × (depth n ≤ length (now ys)) ⌝ }
+    requires { ⌜ (x + depth n ≤ length (now s)) × (y + depth n ≤ length (now s)) × (3 * depth n ≤ length (now xs))
+        × (3 * depth n ≤ length (now ys)) ⌝ }
     ensures { λ _. ⌜ Registers (now (s .entry)) x y n (now (xs .exit)) (now (ys .exit)) ⌝ }
 {
     let m = n / 2 + 1;

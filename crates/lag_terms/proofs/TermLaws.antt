@@ -9,9 +9,9 @@ use Rattle.lta_spec.specs.Words.{splice}
 use Rattle.lta_spec.proofs.WordLaws.{set-splice-next}
 use Rattle.lag_terms.specs.Terms.{lagTerms}
 
-pub length-lagTerms : (xs ys : List ℕ) (h : ℕ) → length (lagTerms xs ys h) ≡ 4 * h
-length-lagTerms xs ys zero = refl
-length-lagTerms xs ys (suc h) = simp length-append (omega (arith, length-lagTerms xs ys h))
+pub length-lagTerms : (xs ys : List ℕ) (m h : ℕ) → length (lagTerms xs ys m h) ≡ 4 * h
+length-lagTerms xs ys m zero = refl
+length-lagTerms xs ys m (suc h) = simp length-append (omega (arith, length-lagTerms xs ys m h))
 
 -- I and Q of one lag more
 pub pair-next : (l vs : List ℕ) (k a b : ℕ) → length vs ≡ k

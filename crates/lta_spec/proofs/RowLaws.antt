@@ -144,10 +144,10 @@ window-shift n byte l = by-depth (n / 2)
 module _ (n : ℕ) (xs ys xs′ ys′ : List Entry)
     (p : (d : ℕ) → d < depth n → ago xs d ≡ ago xs′ d) (q : (d : ℕ) → d < depth n → ago ys d ≡ ago ys′ d) where
   x-same : (k : ℕ) → k < n → lagX xs k ≡ lagX xs′ k
-  x-same k h = p (xDelay k) (omega arith)
+  x-same k h = p (xDelay 0 k) (omega arith)
 
   y-same : (k : ℕ) → lagY n ys k ≡ lagY n ys′ k
-  y-same k = q (yDelay n k) (omega arith)
+  y-same k = q (yDelay n 0 k) (omega arith)
 
   inPhase-same : (k : ℕ) → k < n → inPhaseAt n xs ys k ≡ inPhaseAt n xs′ ys′ k
   unfolding inPhaseAt
@@ -223,8 +223,8 @@ module _ (n : ℕ) (xs ys : List ℕ) where
   lags-limited (suc m) k =
       let x = lagX (map fromByte xs) k in
       let y = lagY n (map fromByte ys) k in
-      let p = sampled xs (xDelay k) in
-      let q = sampled ys (yDelay n k) in
+      let p = sampled xs (xDelay 0 k) in
+      let q = sampled ys (yDelay n 0 k) in
       both (biased-limit (inPhase x y) (inPhase-bound x y p q))
       (both (biased-limit (quadrature x y) (quadrature-bound x y p q)) (lags-limited m (suc k)))
 

@@ -65,8 +65,8 @@ module _ (n : ℕ) (xs ys : List ℕ) where
       let py = drop (length ys - suc i) ys in
       let x = lagX (map fromByte px) k in
       let y = lagY n (map fromByte py) k in
-      let sx = sampled px (xDelay k) in
-      let sy = sampled py (yDelay n k) in
+      let sx = sampled px (xDelay 0 k) in
+      let sy = sampled py (yDelay n 0 k) in
       let w = lag-words n (map fromByte px) (map fromByte py) n 0 k k (omega arith) h in
       rw (p, q) (
         ap pos (w .0) ∙ biased-is (inPhase x y) (inPhase-bound x y sx sy),

@@ -119,8 +119,9 @@ entry-is b =
     )
 
 -- "so the relative delay is k - N/2 and lag N/2 is the centre": X at lag k is k - N/2 ticks older than Y
-pub relative-delay : (n k : ℕ) → k ≤ n → xDelay k + n / 2 ≡ yDelay n k + k
-relative-delay n k h = omega arith
+pub relative-delay : (total first k : ℕ) → first + k ≤ total
+    → xDelay first k + total / 2 ≡ yDelay total first k + (first + k)
+relative-delay total first k h = omega arith
 
-pub centre-delay : (n : ℕ) → xDelay (n / 2) ≡ yDelay n (n / 2)
+pub centre-delay : (n : ℕ) → xDelay 0 (n / 2) ≡ yDelay n 0 (n / 2)
 centre-delay n = omega arith

@@ -125,8 +125,8 @@ pub record Edges : Type 0 where
   pub worked-engine : engineReturns workedShape (callsOf workedRun) (freshMem workedShape) ≡ returnedBy workedRun
   pub worked-bytes : take 10 workedFrame ≡ 0x4C ∷ 0x54 ∷ 0x02 ∷ 0x08 ∷ 0 ∷ 0 ∷ 0 ∷ 0x15 ∷ 0x04 ∷ 0x80 ∷ []
   -- P2 N=2 lag 0: delays 0 and 1; lag 1: 1 and 1
-  pub p2-lag0 : (xDelay 0 ≡ 0) × (yDelay 2 0 ≡ 1)
-  pub p2-lag1 : (xDelay 1 ≡ 1) × (yDelay 2 1 ≡ 1)
+  pub p2-lag0 : (xDelay 0 0 ≡ 0) × (yDelay 2 0 0 ≡ 1)
+  pub p2-lag1 : (xDelay 0 1 ≡ 1) × (yDelay 2 0 1 ≡ 1)
   -- P3 d=4: I weight 0, Q weight 2
   pub p3 : (weight 4 ≡ pos 0) × (weight ((4 + 12) % 16) ≡ pos 2)
   -- samples 3 and -5: X phase 9 and Y phase 5, d=4; X phase 5 and Y phase 9, d=12

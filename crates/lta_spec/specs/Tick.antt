@@ -29,14 +29,14 @@ noSample = record { valid = false; sample = negsuc 7; phase = 0 }
 abbrev pub ago : List Entry → (d : ℕ) → Entry
 ago es d = getD es d noSample
 
--- "Lag k multiplies X from (k+1) div 2 ticks ago by Y from N/2 - (k div 2) ticks ago", N the lags of the whole
--- correlator: the memo's X and Y shift registers, both shifted (4.2); `relative-delay` in proofs/TickLaws.antt: "so the
--- relative delay is k - N/2"
-abbrev pub xDelay : (k : ℕ) → ℕ
-xDelay k = (k + 1) / 2
+-- "Lag k multiplies X from (k+1) div 2 ticks ago by Y from N/2 - (k div 2) ticks ago": the memo's X and Y shift
+-- registers, both shifted (4.2). `total` is the lags of the whole correlator, N here; lags are counted from `first`, 0
+-- here. `relative-delay` in proofs/TickLaws.antt: "so the relative delay is k - N/2"
+abbrev pub xDelay : (first k : ℕ) → ℕ
+xDelay first k = (first + k + 1) / 2
 
-abbrev pub yDelay : (total k : ℕ) → ℕ
-yDelay total k = total / 2 - k / 2
+abbrev pub yDelay : (total first k : ℕ) → ℕ
+yDelay total first k = total / 2 - (first + k) / 2
 
 -- "The product is valid when both samples are; otherwise it adds 0."
 abbrev pub bothValid : (x y : Entry) → Bool
@@ -69,10 +69,10 @@ quadrature x y = product x y *ℤ weight ((turn x y + 12) % 16)
 
 -- what meets at lag k of n in one tick: xs and ys are the entries of that tick and those before it
 abbrev pub lagX : (xs : List Entry) (k : ℕ) → Entry
-lagX xs k = ago xs (xDelay k)
+lagX xs k = ago xs (xDelay 0 k)
 
 abbrev pub lagY : (n : ℕ) (ys : List Entry) (k : ℕ) → Entry
-lagY n ys k = ago ys (yDelay n k)
+lagY n ys k = ago ys (yDelay n 0 k)
 
 unfoldable pub validAt : (n : ℕ) (xs ys : List Entry) (k : ℕ) → Bool
 validAt n xs ys k = bothValid (lagX xs k) (lagY n ys k)

@@ -1,2 +1,3 @@
--- What one lag adds, on biased numbers.
+-- A decoded entry, what one lag adds, and a decoded register.
 pub mod Signal
+pub mod Decoded

@@ -1,51 +1,54 @@
--- What one lag adds, on small numbers that are never below 0: a sample carries a bias of 7, a product 49, a weight 2
--- and a contribution 98. proofs/SignalLaws.antt ties them to document 01's integers.
-use mathlib.Core.Bool.{cond}
-use Prim.Native.Nat.{ℕ, _+_, _*_, _-_, _/_, _%_, _<_, _≤_}
-use lib.Dec.{eqb, leb, ltb}
+-- A decoded entry, and what one lag adds, in words of 16 bits: numbers modulo 65,536, those below 0 in two's
+-- complement. proofs/SignalLaws.antt ties them to document 01's integers.
+use mathlib.Core.Bool.{cond, not, _&&_}
+use Prim.Native.Nat.{ℕ, _+_, _*_, _-_, _/_, _%_}
+use lib.Dec.{eqb, ltb}
+use Rattle.lta_spec.specs.Shape.{peak}
 
--- sample + 7 of the low four bits of a stored entry, sample + 8; an invalid one, 0, counts as a sample of 0
-abbrev pub nibbleDigit : (n : ℕ) → ℕ
-nibbleDigit n = cond (eqb n 0) 7 (n - 1)
+-- The decoded entry of a stored one: its sample, 0 where it is invalid; its phase, in the top four bits, so that the
+-- difference of two wraps at 16; and its validity. n is the low four bits of a stored entry, sample + 8 or, where it is
+-- invalid, 0.
+abbrev pub nibbleSample : (n : ℕ) → ℕ
+nibbleSample n = cond (eqb n 0) 0 ((n + 65528) % 65536)
 
-abbrev pub digit : (word : ℕ) → ℕ
-digit w = nibbleDigit (w % 16)
+abbrev pub nibbleValid : (n : ℕ) → ℕ
+nibbleValid n = cond (eqb n 0) 0 1
 
-abbrev pub phase : (word : ℕ) → ℕ
-phase w = w / 16 % 16
+abbrev pub sampleOf : (word : ℕ) → ℕ
+sampleOf w = nibbleSample (w % 16)
 
--- what decoded numbers are within
-pub record Digits (a b : ℕ) : Type 0 where
-  pub first : a ≤ 14
-  pub second : b ≤ 14
+abbrev pub phaseOf : (word : ℕ) → ℕ
+phaseOf w = w / 16 % 16 * 4096
 
-pub record Phases (p q turn : ℕ) : Type 0 where
-  pub first : p < 16
-  pub second : q < 16
-  pub third : turn < 16
+abbrev pub validOf : (word : ℕ) → ℕ
+validOf w = nibbleValid (w % 16)
 
--- product + 49
-abbrev pub product49 : (a b : ℕ) → ℕ
-product49 a b = a * b + 98 - 7 * a - 7 * b
+-- 1 where two decoded entries are valid
+abbrev pub bothFlag : (u v : ℕ) → ℕ
+bothFlag u v = cond (not (eqb u 0) && not (eqb v 0)) 1 0
 
--- X phase - Y phase, turned by 0 for I and by 12 for Q
+-- the product of two words
+abbrev pub times16 : (a b : ℕ) → ℕ
+times16 a b = a * b % 65536
+
+-- X phase - Y phase, turned by 0 for I and by 12, in the top four bits, for Q
 abbrev pub turned : (p q turn : ℕ) → ℕ
-turned p q turn = (p + 16 - q + turn) % 16
+turned p q turn = (p + 65536 - q + turn) % 65536
 
-abbrev pub one : (a b : ℕ) → ℕ
-one a b = cond (leb a b) 1 0
+abbrev pub turnI : ℕ
+turnI = 0
 
--- weight + 2: it falls with the distance from 0, either way round
-abbrev pub weightAt : (e : ℕ) → ℕ
-weightAt e = one e 1 + one e 3 + one e 4 + one e 6
+abbrev pub turnQ : ℕ
+turnQ = 12 * 4096
 
-abbrev pub weight2 : (d : ℕ) → ℕ
-weight2 d = weightAt (cond (ltb d 8) d (16 - d))
+-- how far a difference is from 0, either way round
+abbrev pub distance : (d : ℕ) → ℕ
+distance d = cond (ltb d 32768) d (65536 - d)
 
--- product × weight + 98
-abbrev pub term98 : (u v : ℕ) → ℕ
-term98 u v = u * v + 196 - 2 * u - 49 * v
+-- the weight, 2 less what it has fallen by at that distance: 0, 0, 1, 1, 2, 3, 3, 4, 4 at 0 to 8 times 4096
+abbrev pub weightWord : (d : ℕ) → ℕ
+weightWord d = (65538 - (distance d + 1820) * 9 / 65536) % 65536
 
--- what two decoded entries add to a stored sum
+-- what two decoded entries add to a stored sum: the bias and product × weight
 unfoldable pub contribution : (a p b q turn : ℕ) → ℕ
-contribution a p b q turn = term98 (product49 a b) (weight2 (turned p q turn))
+contribution a p b q turn = (times16 (times16 a b) (weightWord (turned p q turn)) + peak) % 65536

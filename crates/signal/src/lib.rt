@@ -1,66 +1,70 @@
-// One lag's contribution on small unsigned numbers. A decoded entry is a digit, sample + 7 (7 where it is invalid),
-// and a phase. What a lag adds is never below 0: it carries a bias of 98.
+// A shift register entry decoded, and what one lag adds, in words of 16 bits. Sums and products wrap, a number below 0
+// stands in two's complement, and nothing is asked of the words. What a lag adds carries a bias of PEAK.
+use lta_spec::PEAK;
+use std::num::wrapping_add_u16;
+use std::num::wrapping_sub_u16;
 ghost use mathlib.Core.Path.{_≡_};
-ghost use Prim.Native.Nat.{_<_, _≤_};
-ghost use mathlib.Core.Bool.{cond};
-ghost use Rattle.lta_spec.specs.Tick.{bothValid};
-ghost use Rattle.lta_spec.specs.Row.{fromWord};
-ghost use Rattle.signal.specs.Signal.{digit, phase, Digits, Phases};
-ghost use Rattle.signal.specs.Signal.{product49, turned, weight2, term98, contribution};
+ghost use Prim.Native.Nat.{_≤_};
+ghost use Rattle.signal.specs.Signal.{sampleOf, phaseOf, validOf, bothFlag, times16, turned};
+ghost use Rattle.signal.specs.Signal.{weightWord, contribution};
 
-// The digit of a stored shift register entry, which is below 256.
-pub fn digit_of(w: u16) -> u16
-    ensures { λ r. ⌜ r ≡ digit w ⌝ }
+// A sample of 0, as a shift register keeps it.
+const STORED_ZERO: u16 = 8;
+
+// The sample of a stored entry, 0 where it is invalid.
+pub fn sample_of(w: u16) -> u16
+    ensures { λ r. ⌜ r ≡ sampleOf w ⌝ }
 {
     let n = w % 16;
-    if n == 0 { 7 } else { n - 1 }
+    if n == 0 {
+        0
+    } else {
+        wrapping_sub_u16(n, STORED_ZERO)
+    }
 }
 
-// The phase of a stored shift register entry.
+// The phase of a stored entry, in the top four bits.
 pub fn phase_of(w: u16) -> u16
-    ensures { λ r. ⌜ r ≡ phase w ⌝ }
+    ensures { λ r. ⌜ r ≡ phaseOf w ⌝ }
 {
-    w / 16 % 16
+    w / 16 % 16 * 4096
 }
 
-// 1 where both of two stored entries are valid.
-pub fn both_valid(x: u64, y: u64) -> u64
-    ensures { λ r. ⌜ (r ≡ cond (bothValid (fromWord x) (fromWord y)) 1 0) × (r ≤ 1) ⌝ }
+// 1 where a stored entry is valid, else 0.
+pub fn valid_of(w: u16) -> u16
+    ensures { λ r. ⌜ r ≡ validOf w ⌝ }
 {
-    ((x % 16 != 0) & (y % 16 != 0)) as u64
+    (w % 16 != 0) as u16
 }
 
-// The product of two samples, with a bias of 49.
-pub fn product(a: u16, b: u16) -> u16
-    requires { ⌜ Digits a b ⌝ }
-    ensures { λ r. ⌜ r ≡ product49 a b ⌝ }
+// 1 where both of two decoded entries are valid, else 0, by their validity.
+pub fn both_valid(u: u16, v: u16) -> u64
+    ensures { λ r. ⌜ (r ≡ bothFlag u v) × (r ≤ 1) ⌝ }
 {
-    a * b + 98 - 7 * a - 7 * b
+    ((u != 0) & (v != 0)) as u64
 }
 
-// The weight at the difference of two phases turned by `turn`, 0 for I and 12 for Q, with a bias of 2. Arithmetic
-// on the distance from 8 and no table: it runs on several lags at a time.
-pub fn weight(xp: u16, yp: u16, turn: u16) -> u16
-    requires { ⌜ Phases xp yp turn ⌝ }
-    ensures { λ r. ⌜ r ≡ weight2 (turned xp yp turn) ⌝ }
+// The product of two words.
+fn times(a: u16, b: u16) -> u16
+    ensures { λ r. ⌜ r ≡ times16 a b ⌝ }
 {
-    let d = (xp + 16 - yp + turn) % 16;
-    let f = if d < 8 { 8 - d } else { d - 8 };
-    (9 * f + 4) / 16
+    (a as u32 * b as u32 % 65536) as u16
 }
 
-// What a product adds at a weight, with a bias of 98.
-pub fn term(u: u16, v: u16) -> u16
-    requires { ⌜ (u ≤ 98) × (v ≤ 4) ⌝ }
-    ensures { λ r. ⌜ r ≡ term98 u v ⌝ }
+// The weight at the difference of two phases turned by `turn`. Arithmetic on the distance from 0 and no table: it runs
+// on several lags at a time.
+fn weight(p: u16, q: u16, turn: u16) -> u16
+    ensures { λ r. ⌜ r ≡ weightWord (turned p q turn) ⌝ }
 {
-    u * v + 196 - 2 * u - 49 * v
+    let d = wrapping_add_u16(wrapping_sub_u16(p, q), turn);
+    let e = if d < 32768 { d } else { wrapping_sub_u16(0, d) };
+    let fall = (e + 1820) as u32 * 9 / 65536;
+    wrapping_sub_u16(2, fall as u16)
 }
 
-// What a lag adds to its I sum, turn 0, or its Q sum, turn 12: X's digit and phase against Y's.
-pub fn lag_adds(a: u16, xp: u16, b: u16, yp: u16, turn: u16) -> u16
-    requires { ⌜ Digits a b × Phases xp yp turn ⌝ }
-    ensures { λ r. ⌜ r ≡ contribution a xp b yp turn ⌝ }
+// What a lag adds to its I sum, or to its Q sum with `turn` three quarters: X's sample a and phase p, Y's b and q.
+pub fn lag_adds(a: u16, p: u16, b: u16, q: u16, turn: u16) -> u16
+    ensures { λ r. ⌜ r ≡ contribution a p b q turn ⌝ }
 {
-    term(product(a, b), weight(xp, yp, turn))
+    wrapping_add_u16(times(times(a, b), weight(p, q, turn)), PEAK as u16)
 }

@@ -1,21 +1,22 @@
 -- Laws of tests over the words of a part.
 use mathlib.Core.Path.{_≡_, refl, sym, ap, _∙_}
 use mathlib.Core.Logic.{_⊎_, ⊎-elim, inl, inr}
-use mathlib.Core.Bool.{Bool, true, false, _&&_, and-assoc, and-false}
-use mathlib.Core.List.{List, [], _∷_, _++_}
+use mathlib.Core.Bool.{Bool, true, false, _&&_, and-assoc}
+use mathlib.Core.List.{List, [], _∷_}
 use Prim.Native.Nat.{ℕ, suc, _+_, _*_, _-_, _%_, _^_, _<_, _≤_}
 use native.Mathlib.Nat.{add-zero}
 use native.Mathlib.Omega.{arith}
 use lib.Bits.{bitOr, or-add-and, and-le-r, or-lt, or-comm}
 use lib.Dec.{leb, ltb}
-use lib.ListN.{length, getD, take, drop, length-drop}
+use lib.ListN.{length, getD, drop, length-drop}
 use lib.Seq.{take-add, drop-at, drop-drop, length-take-le, getD-drop}
-use borrow.Author.Tests.{lt-ltb, le-ltb, le-leb, lt-leb, ltb-true, ltb-false}
+use borrow.Author.Tests.{lt-ltb, le-ltb, le-leb, lt-leb, ltb-true, ltb-false, leb-true}
 use Rattle.lta_spec.specs.Words.{part, every}
 use Rattle.lta_spec.specs.Size.{rowWords}
 use Rattle.lta_spec.specs.Row.{rowOk, sumOk}
 use Rattle.lta_spec.proofs.WordLaws.{getD-part}
-use Rattle.lta_spec.proofs.TestLaws.{every-next}
+use Rattle.lta_spec.proofs.TestLaws.{and-both, every-next}
+use Rattle.words.specs.Moves.{atMost}
 
 -- one word more, as a loop going up tests it
 pub every-part-next : (f : ℕ → Bool) (l : List ℕ) (at i : ℕ) → at + i < length l
@@ -96,16 +97,6 @@ top-bits x y b hx hy hb e =
     (λ h. rw (lt-ltb x top (omega arith), lt-ltb y top (omega arith)) (sym (le-leb x b h)))
     (lt-or-ge b x)
 
--- the same of y as x + (2 ^ 63 - 1 - b), wrapping
-over-bits : (x y b : ℕ) → x < 2 ^ 64 → b < top → y ≡ (x + (9223372036854775807 - b)) % 2 ^ 64
-    → ltb x top && ltb y top ≡ leb x b
-over-bits x y b hx hb e =
-    ⊎-elim
-    (λ h. rw (lt-leb x b h)
-    (⊎-elim (λ k. rw (lt-ltb x top k, le-ltb y top (omega arith))) (λ k. rw (le-ltb x top k)) (lt-or-ge x top)))
-    (λ h. rw (lt-ltb x top (omega arith), lt-ltb y top (omega arith)) (sym (le-leb x b h)))
-    (lt-or-ge b x)
-
 -- a turn of the loop that gathers the top bits
 pub wide-next : (acc x y b : ℕ) → x < 2 ^ 64 → y < 2 ^ 64 → b < top → (y + x) % 2 ^ 64 ≡ b
     → ltb (bitOr (bitOr acc x) y) top ≡ ltb acc top && leb x b
@@ -114,48 +105,18 @@ wide-next acc x y b hx hy hb e =
     ∙ and-assoc (ltb acc top) (ltb x top) (ltb y top)
     ∙ ap (λ (r : Bool). ltb acc top && r) (top-bits x y b hx hy hb e)
 
--- a turn of the loop that takes two words, x and y, with x′ and y′ for them moved up
-pair-bits : (h o x x′ y y′ : Bool) → ((h && x) && y) && ((o && x′) && y′) ≡ (h && o) && ((x && x′) && (y && y′))
-pair-bits false o x x′ y y′ = refl
-pair-bits true false x x′ y y′ = and-false (x && y)
-pair-bits true true false x′ y y′ = refl
-pair-bits true true true false y y′ = and-false y
-pair-bits true true true true y y′ = refl
+-- words at most a are at most a number that is not below it
+pub every-wider : (a b : ℕ) → a ≤ b → (l : List ℕ) → every (atMost a) l ≡ true → every (atMost b) l ≡ true
+every-wider a b h [] e = refl
+every-wider a b h (x ∷ l) e =
+    let q = and-both (atMost a x) (every (atMost a) l) e in
+    rw (le-leb x b (omega (arith, leb-true x a (q .0)))) (every-wider a b h l (q .1))
 
-or-below-3 : (a b c : ℕ) → ltb (bitOr (bitOr a b) c) top ≡ (ltb a top && ltb b top) && ltb c top
-or-below-3 a b c = or-below (bitOr a b) c ∙ ap (λ (r : Bool). r && ltb c top) (or-below a b)
-
-pub pair-next : (high over x x′ y y′ b : ℕ) → x < 2 ^ 64 → y < 2 ^ 64 → b < top
-    → x′ ≡ (x + (9223372036854775807 - b)) % 2 ^ 64 → y′ ≡ (y + (9223372036854775807 - b)) % 2 ^ 64
-    → ltb (bitOr (bitOr (bitOr high x) y) (bitOr (bitOr over x′) y′)) top
-    ≡ ltb (bitOr high over) top && (leb x b && leb y b)
-pair-next high over x x′ y y′ b hx hy hb ex ey =
-    or-below (bitOr (bitOr high x) y) (bitOr (bitOr over x′) y′)
-    ∙ rw (
-      or-below-3 high x y,
-      or-below-3 over x′ y′,
-      or-below high over,
-      ← over-bits x x′ b hx hb ex,
-      ← over-bits y y′ b hy hb ey,
+-- a turn of the loop that gathers bits
+pub bits-next : (bits x : ℕ) (l : List ℕ) → every (atMost bits) l ≡ true
+    → every (atMost (bitOr bits x)) l && atMost (bitOr bits x) x ≡ true
+bits-next bits x l e =
+    rw (
+      every-wider bits (bitOr bits x) (or-above bits x) l e,
+      le-leb x (bitOr bits x) (rw or-comm at (or-above x bits)),
     )
-    (pair-bits (ltb high top) (ltb over top) (ltb x top) (ltb x′ top) (ltb y top) (ltb y′ top))
-
--- a part of twice n words is its two halves
-every-append : (f : ℕ → Bool) (a b : List ℕ) → every f (a ++ b) ≡ every f a && every f b
-every-append f [] b = refl
-every-append f (x ∷ a) b = rw (every-append f a b) (sym (and-assoc (f x) (every f a) (every f b)))
-
-pub every-halves : (f : ℕ → Bool) (l : List ℕ) (at n : ℕ)
-    → every f (part at (2 * n) l) ≡ every f (part at n l) && every f (part (at + n) n l)
-unfolding part
-every-halves f l at n =
-    let twice : 2 * n ≡ n + n = omega arith in
-    rw (twice, take-add n n (drop at l), drop-drop n at l)
-    (every-append f (take n (drop at l)) (take n (drop (at + n) l)))
-
--- the tests of two words more
-pub both-next : (p q x y : Bool) → (p && q) && (x && y) ≡ (p && x) && (q && y)
-both-next false q x y = refl
-both-next true false false y = refl
-both-next true false true y = refl
-both-next true true x y = refl

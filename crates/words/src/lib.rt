@@ -1,6 +1,7 @@
 // Words of a lent slice: a row is added to another and cleared, a part is cleared, and the tests of refusal 11 on rows
 // and on shift registers.
 ghost use mathlib.Core.Path.{_≡_};
+ghost use mathlib.Core.Bool.{true};
 ghost use Prim.Native.Nat.{_+_, _*_, _<_, _≤_};
 ghost use lib.ListN.{length};
 ghost use Rattle.lta_spec.specs.Words.{part, splice, zeros, every};
@@ -40,7 +41,7 @@ pub fn clear(s: &mut [u64], at: usize, n: usize)
 
 // Is each of the n words at `at` at most b? No branch in the loop and no unsigned comparison, which SSE2 lacks: where
 // neither x nor b - x, wrapping, has its top bit, x is at most b.
-pub fn all_le(s: &[u64], at: usize, n: usize, b: u64) -> bool
+fn all_le(s: &[u64], at: usize, n: usize, b: u64) -> bool
     requires { ⌜ (at + n ≤ length (now s)) × (b < 9223372036854775808) ⌝ }
     ensures { λ r. ⌜ r ≡ every (atMost b) (part at n (now (s .entry))) ⌝ }
 {
@@ -54,27 +55,30 @@ pub fn all_le(s: &[u64], at: usize, n: usize, b: u64) -> bool
     acc < 9223372036854775808
 }
 
-// Is each of the 2n words at `at` at most b? As above, with x + (2^63 - 1 - b) for b - x. Two words a turn, n apart,
-// and the two kinds of top bits gathered apart: the processor takes a long row so at its best, a short one as above.
-fn pairs_le(s: &[u64], at: usize, n: usize, b: u64) -> bool
-    requires { ⌜ (at + 2 * n ≤ length (now s)) × (b < 9223372036854775808) ⌝ }
-    ensures { λ r. ⌜ r ≡ every (atMost b) (part at (2 * n) (now (s .entry))) ⌝ }
+// The bits of the n words at `at`, gathered: none of the words is above them.
+fn bits_of(s: &[u64], at: usize, n: usize) -> u64
+    requires { ⌜ at + n ≤ length (now s) ⌝ }
+    ensures { λ r. ⌜ every (atMost r) (part at n (now (s .entry))) ≡ true ⌝ }
 {
-    if n < 8 {
-        return all_le(s, at, 2 * n, b);
-    }
-    let room = 9223372036854775807 - b;
-    let mut high: u64 = 0;
-    let mut over: u64 = 0;
+    let mut bits: u64 = 0;
     let mut i: usize = 0;
     while i < n {
-        let x = s[at + i];
-        let y = s[at + n + i];
-        high = high | x | y;
-        over = over | std::num::wrapping_add_u64(x, room) | std::num::wrapping_add_u64(y, room);
+        bits = bits | s[at + i];
         i += 1;
     }
-    (high | over) < 9223372036854775808
+    bits
+}
+
+// Is each of the n words at `at` at most b? Their bits gathered are half the work and mostly tell: the sums of a row
+// are near half of what they may be, and entries are below a power of 2. Where they do not, each word is tested.
+fn within(s: &[u64], at: usize, n: usize, b: u64) -> bool
+    requires { ⌜ (at + n ≤ length (now s)) × (b < 9223372036854775808) ⌝ }
+    ensures { λ r. ⌜ r ≡ every (atMost b) (part at n (now (s .entry))) ⌝ }
+{
+    if bits_of(s, at, n) <= b {
+        return true;
+    }
+    all_le(s, at, n, b)
 }
 
 // Is the row of n lags at `at` within its limits: ticks, counts, and sums of at most 196 a tick?
@@ -87,7 +91,7 @@ pub fn row_ok(s: &[u64], at: usize, n: usize, limit: u64) -> bool
         return false;
     }
     let few = (s[at + 1] <= ticks) & (s[at + 2] <= ticks);
-    few & pairs_le(s, at + 3, n, 196 * ticks)
+    few & within(s, at + 3, 2 * n, 196 * ticks)
 }
 
 // Is each of the n words at `at` an entry that a sampler byte gives?
@@ -95,5 +99,5 @@ pub fn entries_ok(s: &[u64], at: usize, n: usize) -> bool
     requires { ⌜ at + n ≤ length (now s) ⌝ }
     ensures { λ r. ⌜ r ≡ every entryOk (part at n (now (s .entry))) ⌝ }
 {
-    all_le(s, at, n, 255)
+    within(s, at, n, 255)
 }

@@ -64,7 +64,7 @@ fn every_other_answer_is_seen() {
 /// block or lends no buffer, a missing answer, buffers too short or long enough, lengths, a run that is not set up,
 /// lines that are missing or too many.
 const CHANGES: [(&str, &str); 21] = [
-    ("level 4\n", "level 3\n"),
+    ("level 5\n", "level 4\n"),
     ("shape 2 ", "shape 1 "),
     (" 100 1\n", " 100 2\n"),
     ("bound 6400\n", "bound 64\n"),
@@ -75,7 +75,7 @@ const CHANGES: [(&str, &str); 21] = [
     (" 1 - 0 = 0 0\n", " 1 3 0 = 0 0\n"),
     (" 1 - 0 = 0 0\n", " 1 - - = 0 0\n"),
     (" - 77 = 0 70 ", " - 69 = 0 70 "),
-    (" - 66 = 10\n", " - 70 = 10\n"),
+    (" - 69 = 10\n", " - 70 = 10\n"),
     (" = 0 0\n", "\n"),
     (" 66 = 0 66 ", " 65 = 0 66 "),
     ("\npage 533 = 0 533 ", "\npage 532 = 0 533 "),

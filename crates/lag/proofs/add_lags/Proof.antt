@@ -1,7 +1,7 @@
 -- The terms stand in the first words of `terms`.
 use mathlib.Core.Path.{_≡_, _∙_}
 use mathlib.Core.List.{List}
-use Prim.Native.Nat.{ℕ, _*_}
+use Prim.Native.Nat.{ℕ, _+_, _*_}
 use native.Mathlib.Omega.{arith}
 use lib.ListN.{length}
 use denote.Ref.{now}
@@ -27,11 +27,11 @@ add-terms-requires c κs =
     let t = c .before .before .before .before in
     let p = t .before .before .before .before .before .before .pre in
     let a = t .before .before .before .before .before .before .args in
-    let ts : List ℕ = lagTerms (now (a .xs)) (now (a .ys)) (a .h) in
-    let lt : length ts ≡ 4 * a .h = length-lagTerms (now (a .xs)) (now (a .ys)) (a .h) in (
-      omega (arith, p .2),
+    let ts : List ℕ = lagTerms (now (a .xs)) (now (a .ys)) (a .h + 1) (a .h) in
+    let lt : length ts ≡ 4 * a .h = length-lagTerms (now (a .xs)) (now (a .ys)) (a .h + 1) (a .h) in (
+      omega (arith, p .4),
       omega (arith, t .put-lags .kept),
-      (λ i h. rw (t .put-lags .ensures, getD-front (now (a .terms)) ts i (omega arith) (omega arith)) (p .3 i h)),
+      (λ i h. rw (t .put-lags .ensures, getD-front (now (a .terms)) ts i (omega arith) (omega arith)) (p .5 i h)),
     )
 
 same-length : tie.Need-same-length
@@ -44,8 +44,8 @@ returns : tie.Need-returns
 returns c =
     let t = c .before .before .before .before .before .before .before in
     let a = t .before .before .before .before .before .before .args in
-    let ts : List ℕ = lagTerms (now (a .xs)) (now (a .ys)) (a .h) in
-    let lt : length ts ≡ 4 * a .h = length-lagTerms (now (a .xs)) (now (a .ys)) (a .h) in
+    let ts : List ℕ = lagTerms (now (a .xs)) (now (a .ys)) (a .h + 1) (a .h) in
+    let lt : length ts ≡ 4 * a .h = length-lagTerms (now (a .xs)) (now (a .ys)) (a .h + 1) (a .h) in
     c .before .before .add-terms .ensures
     ∙ rw (t .put-lags .ensures, take-splice (now (a .terms)) ts (4 * a .h) lt (omega arith))
 

@@ -3,7 +3,6 @@ use native.Mathlib.Omega.{arith}
 use denote.Ref.{now}
 use borrow.Author.Needs.{needs}
 use Rattle.lag.proofs.Adding.{terms-fit, row-added}
-use Rattle.lag.proofs.Decoding.{decoded}
 use Rattle.lag.proofs.add_tick_in.Statement.{statement}
 use Rattle.lag.proofs.add_tick_in.Tie as tie
 
@@ -11,22 +10,32 @@ read-registers-requires : tie.Need-read-registers-requires
 read-registers-requires c κs = search needs
 
 count-tick-requires : tie.Need-count-tick-requires
-count-tick-requires c κs = search needs
+count-tick-requires c κs =
+    let g = c .before .before .before .before .before .before .before in
+    let s = g .before .before .before .before .before .before .before .before in
+    let p = s .pre .0 in
+    let kept = g .read-registers .kept in (
+      p .most,
+      omega (arith, kept, s .pre .1 .x-long),
+      omega (arith, kept, s .pre .1 .y-long),
+      omega (arith, p .to-in),
+      (λ i h. omega (arith, p .room i (omega arith))),
+    )
 
 add-lags-requires : tie.Need-add-lags-requires
 add-lags-requires c κs =
     let t = c .before .before .before .before .before .before in
-    let g = t .before .before .before .before .before .before in
+    let g = t .before .before .before .before .before .before .before .before in
     let s = g .before .before .before .before .before .before .before .before in
     let p = s .pre .0 in
     let a = s .args in
-    let r = g .read-registers .ensures in
-    let l = now (a .s) in (
-      decoded l (a .x) (a .y) (a .n) _ _ r (p .most) (omega (arith, g .read-registers .kept, s .pre .1 .x-long))
-          (omega (arith, g .read-registers .kept, s .pre .1 .y-long)),
+    let kept = g .read-registers .kept in (
+      omega (arith, p .most),
+      omega (arith, kept, s .pre .1 .x-long),
+      omega (arith, kept, s .pre .1 .y-long),
       omega (arith, p .even, s .pre .1 .terms-long),
       omega (arith, p .even, p .to-in, t .count-tick .kept),
-      terms-fit l (a .x) (a .y) (a .to) (a .n) p r (t .count-tick .ensures),
+      terms-fit (now (a .s)) (a .x) (a .y) (a .to) (a .n) p (g .read-registers .ensures) (t .count-tick .ensures),
     )
 
 same-length : tie.Need-same-length
@@ -45,7 +54,7 @@ returns : tie.Need-returns
 returns c =
     let e = c .before .before .before .before in
     let t = e .before .before .before .before .before .before .before in
-    let g = t .before .before .before .before .before .before in
+    let g = t .before .before .before .before .before .before .before .before in
     let s = g .before .before .before .before .before .before .before .before in
     let a = s .args in
     row-added (now (a .s)) (a .x) (a .y) (a .to) (a .n) (s .pre .0) (g .read-registers .ensures)

@@ -1,4 +1,5 @@
 -- What `gather` writes is decoded in its place.
+use native.Mathlib.Omega.{arith}
 use denote.Ref.{now}
 use borrow.Author.Needs.{needs}
 use Rattle.lag_registers.proofs.Decoding.{registers-are}
@@ -29,7 +30,8 @@ returns c =
     let g = d .before .before .before .before .before .before in
     let p = g .before .before .before .before .before .before .pre in
     let a = g .before .before .before .before .before .before .args in
-    registers-are (now (a .s)) (a .x) (a .y) (a .n) (now (a .xs)) (now (a .ys)) (p .2) (p .3)
+    registers-are (now (a .s)) (a .x) (a .y) (a .n) (now (a .xs)) (now (a .ys)) (omega (arith, p .2))
+    (omega (arith, p .3))
     (g .gather .ensures .0) (g .gather .ensures .1) (d .decode .ensures) (c .before .before .decode2 .ensures)
 
 pub read-registers-spec : {M : Type 1} → statement M

@@ -3,17 +3,35 @@ use borrow.Author.Needs.{needs}
 use Rattle.lag_terms.proofs.put_lag.Statement.{statement}
 use Rattle.lag_terms.proofs.put_lag.Tie as tie
 
-mul-x : tie.Need-mul-x
-mul-x c = search needs
+mul-a : tie.Need-mul-a
+mul-a c = search needs
 
-shared-slice-read-x : tie.Need-shared-slice-read-x
-shared-slice-read-x c = search needs
+shared-slice-read-a : tie.Need-shared-slice-read-a
+shared-slice-read-a c = search needs
 
-mul-y : tie.Need-mul-y
-mul-y c = search needs
+add-p : tie.Need-add-p
+add-p c = search needs
 
-shared-slice-read-y : tie.Need-shared-slice-read-y
-shared-slice-read-y c = search needs
+mul-p : tie.Need-mul-p
+mul-p c = search needs
+
+shared-slice-read-p : tie.Need-shared-slice-read-p
+shared-slice-read-p c = search needs
+
+mul-b : tie.Need-mul-b
+mul-b c = search needs
+
+shared-slice-read-b : tie.Need-shared-slice-read-b
+shared-slice-read-b c = search needs
+
+add-q : tie.Need-add-q
+add-q c = search needs
+
+mul-q : tie.Need-mul-q
+mul-q c = search needs
+
+shared-slice-read-q : tie.Need-shared-slice-read-q
+shared-slice-read-q c = search needs
 
 lag-adds-requires : tie.Need-lag-adds-requires
 lag-adds-requires c κs = search needs
@@ -46,10 +64,16 @@ pub put-lag-spec : {M : Type 1} → statement M
 put-lag-spec =
     tie.close
     (tie.spec
-    mul-x
-    shared-slice-read-x
-    mul-y
-    shared-slice-read-y
+    mul-a
+    shared-slice-read-a
+    add-p
+    mul-p
+    shared-slice-read-p
+    mul-b
+    shared-slice-read-b
+    add-q
+    mul-q
+    shared-slice-read-q
     lag-adds-requires
     mul-terms
     slice-write-terms

@@ -1,25 +1,41 @@
--- A product and a weight are within what `term` asks.
+-- Two products, a weight and the bias.
 use borrow.Author.Needs.{needs}
 use Rattle.signal.specs.Signal.{contribution}
-use Rattle.signal.proofs.SignalLaws.{product-small, weight-small}
 use Rattle.signal.proofs.lag_adds.Statement.{statement}
 use Rattle.signal.proofs.lag_adds.Tie as tie
 
-product-requires : tie.Need-product-requires
-product-requires c κs = search needs
+times-requires : tie.Need-times-requires
+times-requires c κs = search needs
 
 weight-requires : tie.Need-weight-requires
 weight-requires c κs = search needs
 
-term-requires : tie.Need-term-requires
-term-requires c κs =
-    let a = c .before .before .args in
-    rw (c .before .product .ensures, c .weight .ensures)
-    (product-small (a .a) (a .b) (c .before .before .pre .0), weight-small (a .xp) (a .yp) (a .turn))
+times-requires-2 : tie.Need-times-requires-2
+times-requires-2 c κs = search needs
+
+cast-wrapping-add-u16 : tie.Need-cast-wrapping-add-u16
+cast-wrapping-add-u16 c = search needs
+
+wrapping-add-u16-requires : tie.Need-wrapping-add-u16-requires
+wrapping-add-u16-requires c κs = search needs
 
 returns : tie.Need-returns
 unfolding contribution
-returns c = rw (c .term .ensures, c .before .before .product .ensures, c .before .weight .ensures)
+returns c =
+    rw (
+      c .wrapping-add-u16 .ensures,
+      c .before .times2 .ensures,
+      c .before .before .before .times .ensures,
+      c .before .before .weight .ensures,
+    )
 
 pub lag-adds-spec : {M : Type 1} → statement M
-lag-adds-spec = tie.close (tie.spec product-requires weight-requires term-requires returns)
+lag-adds-spec =
+    tie.close
+    (tie.spec
+    times-requires
+    weight-requires
+    times-requires-2
+    cast-wrapping-add-u16
+    wrapping-add-u16-requires
+    returns)

@@ -1,66 +1,75 @@
--- The distance from 8, and its weight by one computed test over the sixteen differences.
-use mathlib.Core.Path.{_≡_, ap, _∙_}
+-- The difference, its distance from 0, and what the weight has fallen by there.
+use mathlib.Core.Path.{_≡_, _∙_}
 use mathlib.Core.Logic.{⊎-elim}
-use mathlib.Core.Bool.{cond}
-use Prim.Native.Nat.{ℕ, _+_, _*_, _-_, _/_, _<_, _≤_}
+use Prim.Native.Nat.{_≤_}
 use native.Mathlib.Omega.{arith}
-use lib.Dec.{ltb}
 use borrow.Author.Needs.{needs}
 use borrow.Author.Tests.{lt-ltb, le-ltb}
-use Rattle.signal.specs.Signal.{turned, weight2}
-use Rattle.signal.proofs.Below.{le-below}
+use Rattle.signal.specs.Signal.{turned, distance}
+use Rattle.signal.proofs.SignalLaws.{sub-is}
 use Rattle.signal.proofs.weight.Statement.{statement}
 use Rattle.signal.proofs.weight.Tie as tie
 
-abbrev far : (d : ℕ) → ℕ
-far d = cond (ltb d 8) (8 - d) (d - 8)
+-- the difference turned
+difference : (c : tie.After-wrapping-add-u16)
+    → let a = c .before .before .args in
+    c .wrapping-add-u16 .result ≡ turned (a .p) (a .q) (a .turn)
+difference c =
+    let a = c .before .before .args in
+    let s = c .before .wrapping-sub-u16 in
+    let r = sub-is (s .result) (a .p) (a .q) (s .ok) (omega arith) (omega arith) (s .ensures) in
+    omega (arith, c .wrapping-add-u16 .ensures, r)
 
-abbrev stepped : (d : ℕ) → ℕ
-stepped d = (9 * far d + 4) / 16
+distance-is : (c : tie.Joined1) → c .if1 .e ≡ distance (c .before .wrapping-add-u16 .result)
+distance-is c =
+    ⊎-elim (λ w. rw (lt-ltb _ _ (w .0 .taken)) (w .1))
+    (λ w. rw (le-ltb _ _ (w .0 .left)) (w .2 ∙ omega (arith, w .1 .ensures, w .1 .ok))) (c .if1 .came)
 
-far-small : (d : ℕ) → d < 16 → far d ≤ 8
-far-small d h = le-below 16 1 (λ d b. far d) (λ d b. 8) tt d 0 h (omega arith)
-
-weight-is : (d : ℕ) → d < 16 → stepped d ≡ weight2 d
-weight-is d h =
-    let up = le-below 16 1 (λ d b. stepped d) (λ d b. weight2 d) tt d 0 h (omega arith) in
-    let down = le-below 16 1 (λ d b. weight2 d) (λ d b. stepped d) tt d 0 h (omega arith) in
-    omega (arith, up, down)
-
-distance : (c : tie.Joined1)
-    → let a = c .before .args in
-    c .if1 .f ≡ far (turned (a .xp) (a .yp) (a .turn))
-distance c =
-    ⊎-elim (λ w. rw (lt-ltb _ _ (w .0 .taken)) (w .1)) (λ w. rw (le-ltb _ _ (w .0 .left)) (w .1)) (c .if1 .came)
-
-small : (c : tie.Joined1) → c .if1 .f ≤ 8
+small : (c : tie.Joined1) → c .if1 .e ≤ 32768
 small c =
-    let a = c .before .args in
-    rw (distance c) (far-small (turned (a .xp) (a .yp) (a .turn)) (omega arith))
+    ⊎-elim (λ w. omega (arith, w .1, w .0 .taken))
+    (λ w. omega (arith, w .2, w .1 .ensures, w .1 .ok, w .0 .left)) (c .if1 .came)
 
-add-d : tie.Need-add-d
-add-d c = search needs
+wrapping-sub-u16-requires : tie.Need-wrapping-sub-u16-requires
+wrapping-sub-u16-requires c κs = search needs
 
-sub-d : tie.Need-sub-d
-sub-d c = search needs
+wrapping-add-u16-requires : tie.Need-wrapping-add-u16-requires
+wrapping-add-u16-requires c κs = search needs
 
-add-d-2 : tie.Need-add-d-2
-add-d-2 c = search needs
+wrapping-sub-u16-requires-2 : tie.Need-wrapping-sub-u16-requires-2
+wrapping-sub-u16-requires-2 c κs = search needs
 
-sub-f : tie.Need-sub-f
-sub-f c = search needs
+add-fall : tie.Need-add-fall
+add-fall c = omega (arith, small (c .before))
 
-mul-result : tie.Need-mul-result
-mul-result c = omega (arith, small (c .before))
+cast-fall : tie.Need-cast-fall
+cast-fall c = omega (arith, small (c .before))
 
-add-result : tie.Need-add-result
-add-result c = omega (arith, small (c .before))
+mul-fall : tie.Need-mul-fall
+mul-fall c = search needs
+
+cast-wrapping-sub-u16 : tie.Need-cast-wrapping-sub-u16
+cast-wrapping-sub-u16 c = search needs
+
+wrapping-sub-u16-requires-3 : tie.Need-wrapping-sub-u16-requires-3
+wrapping-sub-u16-requires-3 c κs = search needs
 
 returns : tie.Need-returns
 returns c =
-    let a = c .before .before .args in
-    let d = turned (a .xp) (a .yp) (a .turn) in
-    ap (λ (f : ℕ). (9 * f + 4) / 16) (distance (c .before)) ∙ weight-is d (omega arith)
+    let j = c .before .before in
+    rw (← difference (j .before), ← distance-is j)
+    (omega (arith, c .wrapping-sub-u163 .ensures, c .wrapping-sub-u163 .ok))
 
 pub weight-spec : {M : Type 1} → statement M
-weight-spec = tie.close (tie.spec add-d sub-d add-d-2 sub-f mul-result add-result returns)
+weight-spec =
+    tie.close
+    (tie.spec
+    wrapping-sub-u16-requires
+    wrapping-add-u16-requires
+    wrapping-sub-u16-requires-2
+    add-fall
+    cast-fall
+    mul-fall
+    cast-wrapping-sub-u16
+    wrapping-sub-u16-requires-3
+    returns)

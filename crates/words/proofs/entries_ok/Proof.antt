@@ -10,14 +10,14 @@ use Rattle.words.proofs.PartTests.{every-same}
 use Rattle.words.proofs.entries_ok.Statement.{statement}
 use Rattle.words.proofs.entries_ok.Tie as tie
 
-all-le-requires : tie.Need-all-le-requires
-all-le-requires c κs = search needs
+within-requires : tie.Need-within-requires
+within-requires c κs = search needs
 
 returns : tie.Need-returns
 returns c =
     let a = c .before .before .args in
-    c .all-le .ensures
+    c .within .ensures
     ∙ sym (every-same entryOk (atMost 255) (λ x. leb·suc-suc x 255) (part (a .at) (a .n) (now (a .s))))
 
 pub entries-ok-spec : {M : Type 1} → statement M
-entries-ok-spec = tie.close (tie.spec all-le-requires returns)
+entries-ok-spec = tie.close (tie.spec within-requires returns)

@@ -42,19 +42,22 @@ mul-few-2 c = search needs
 shared-slice-read-few-2 : tie.Need-shared-slice-read-few-2
 shared-slice-read-few-2 c = search needs
 
-add-pairs-le : tie.Need-add-pairs-le
-add-pairs-le c = search needs
+add-within : tie.Need-add-within
+add-within c = search needs
 
-mul-pairs-le : tie.Need-mul-pairs-le
-mul-pairs-le c = search needs
+mul-within : tie.Need-mul-within
+mul-within c = search needs
 
-pairs-le-requires : tie.Need-pairs-le-requires
-pairs-le-requires c κs = search needs
+mul-within-2 : tie.Need-mul-within-2
+mul-within-2 c = search needs
+
+within-requires : tie.Need-within-requires
+within-requires c κs = search needs
 
 returns-2 : tie.Need-returns-2
 returns-2 c =
     sym (law (c .before .before .before .before .before .before)
-    ∙ rw (le-leb _ _ (c .before .before .before .if1 .left), ← c .pairs-le .ensures))
+    ∙ rw (le-leb _ _ (c .before .before .before .if1 .left), ← c .within .ensures))
 
 pub row-ok-spec : {M : Type 1} → statement M
 row-ok-spec =
@@ -69,7 +72,8 @@ row-ok-spec =
     add-few-2
     mul-few-2
     shared-slice-read-few-2
-    add-pairs-le
-    mul-pairs-le
-    pairs-le-requires
+    add-within
+    mul-within
+    mul-within-2
+    within-requires
     returns-2)
