@@ -37,17 +37,18 @@ static void expect(const char *what, int holds) {
     }
 }
 
-/* Noise of the sky, -7 to 7, as the low four bits of a sampler byte; phase 0. */
+/* Noise of the sky, -8 to 7, as the low four bits of a sampler byte; phase 0. */
 static uint8_t noise(void) {
     static uint32_t state = 2463534242u;
     state ^= state << 13;
     state ^= state >> 17;
     state ^= state << 5;
-    return (uint8_t)(((int)(state % 15) - 7) & 15);
+    return (uint8_t)(state >> 28);
 }
 
 /* Both cells get the signal as X and the same, delayed, as Y; cell 1 has invalid Y samples for half of the time. */
 static void feed(int ticks) {
+    enum { BOTH = LTA_VALIDITY_X | LTA_VALIDITY_Y };
     static uint8_t late[DELAY];
     static int at;
     for (int t = 0; t < ticks; t++) {
@@ -55,7 +56,7 @@ static void feed(int ticks) {
         uint8_t y = late[at % DELAY];
         late[at % DELAY] = x;
         at++;
-        uint8_t samples[2 * CELLS] = {x, y, x, at % 2 ? y : 8};
+        uint8_t samples[3 * CELLS] = {x, y, BOTH, x, y, at % 2 ? BOTH : LTA_VALIDITY_X};
         uint64_t result = lta_tick(shape, LTA_SHAPE_LEN, mem, words, samples, sizeof samples);
         expect("no cell is held off", accepted("a tick", result) == 0);
     }

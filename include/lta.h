@@ -34,7 +34,7 @@ extern "C" {
 #endif
 
 #define LTA_VERSION_MAJOR 0
-#define LTA_VERSION_MINOR 4
+#define LTA_VERSION_MINOR 5
 #define LTA_VERSION_PATCH 0
 #define LTA_VERSION (LTA_VERSION_MAJOR * 1000000 + LTA_VERSION_MINOR * 1000 + LTA_VERSION_PATCH)
 
@@ -47,7 +47,7 @@ enum lta_refusal {
     LTA_REFUSAL_NONE = 0,          /* the call was accepted */
     LTA_REFUSAL_BAD_SHAPE = 1,     /* a shape value out of its limits, or not seven of them */
     LTA_REFUSAL_WRONG_MEMORY = 2,  /* work memory not exactly the needed length */
-    LTA_REFUSAL_WRONG_SAMPLES = 3, /* not 2C bytes */
+    LTA_REFUSAL_WRONG_SAMPLES = 3, /* not 3C bytes */
     LTA_REFUSAL_RUN_FULL = 4,      /* the run has had 2,147,483,648 ticks */
     LTA_REFUSAL_NO_CELL = 5,       /* no such cell */
     LTA_REFUSAL_BAD_COMMAND = 6,   /* command 5, 6 or above 7 */
@@ -62,7 +62,8 @@ enum lta_refusal {
     LTA_REFUSAL_WRONG_SUM = 15,    /* a frame with the wrong last word */
     LTA_REFUSAL_BAD_FIELD = 16,    /* a field of a frame breaks its rule */
     LTA_REFUSAL_BAD_RECORD = 17,   /* of scripts alone: unknown mark or a cut record */
-    LTA_REFUSAL_WRONG_BIAS = 18    /* a speed frame with the wrong DATA_BIAS */
+    LTA_REFUSAL_WRONG_BIAS = 18,   /* a speed frame with the wrong DATA_BIAS */
+    LTA_REFUSAL_BAD_VALIDITY = 19  /* a validity byte has another bit set than its lowest two */
 };
 
 /* A shape is seven numbers, in this order: C, N, B, M, S, R, Z. */
@@ -78,6 +79,12 @@ enum lta_shape {
 };
 #define LTA_CELLS_MOST 16
 #define LTA_LAGS_MOST 128
+
+/* The bits of a validity byte. */
+enum lta_validity {
+    LTA_VALIDITY_X = 1, /* the X sample is valid */
+    LTA_VALIDITY_Y = 2  /* the Y sample is valid */
+};
 
 /* The commands of a dump; what they do to the cell's block and to the buffer lent stands with lta_dump. */
 enum lta_command {
@@ -137,7 +144,8 @@ enum lta_head {
 };
 
 /* The bytes of a frame of so many lags, and of a speed frame. A speed frame has one word more ahead of its lag pairs,
- * DATA_BIAS, which is 98 * its ticks. It is already taken off them: the pairs of both kinds are plain signed sums. */
+ * DATA_BIAS, which is 128 * its ticks. It is already taken off them: the pairs of both kinds are plain signed sums.
+ * Before version 0.5.0 it was 98 * its ticks: of those speed frames the reader takes the ones without ticks alone. */
 #define LTA_FRAME_LEN(lags) (34 + 8 * (lags))
 #define LTA_SPEED_FRAME_LEN(lags) (38 + 8 * (lags))
 
@@ -157,8 +165,13 @@ uint64_t lta_words_needed(const uint64_t *shape, size_t shape_len);
  * Refuses 1, 2: memory not exactly the needed length. */
 uint64_t lta_setup(const uint64_t *shape, size_t shape_len, uint64_t *mem, size_t mem_len);
 
-/* One tick: an X byte and a Y byte for each cell in turn; answers the number of cells held off.
- * Refuses 1, 2, 3: not 2C bytes, 4: the run is full, 11: damaged memory. */
+/* One tick: an X byte, a Y byte and a validity byte for each cell in turn; answers the number of cells held off.
+ *
+ * The low four bits of an X or Y byte are its sample, two's complement, -8 to 7; the high four are its phase, 0 to 15.
+ * The validity byte has LTA_VALIDITY_X set where the X sample is valid, LTA_VALIDITY_Y where the Y sample is, and no
+ * other bit. A sample whose bit is clear adds nothing, whatever its four bits are.
+ *
+ * Refuses 1, 2, 3: not 3C bytes, 19: a validity byte has another bit set, 4: the run is full, 11: damaged memory. */
 uint64_t lta_tick(const uint64_t *shape, size_t shape_len, uint64_t *mem, size_t mem_len,
                   const uint8_t *samples, size_t samples_len);
 
@@ -245,7 +258,7 @@ uint64_t lta_page(const uint64_t *shape, size_t shape_len, const uint64_t *mem, 
 
 /* The fields of a frame of so many lags, of either kind, into head, by lta_head; answers 0.
  * Refuses 1, 13: the length of neither kind, 14: mark, 15: last word, 16: a field rule, or a kind that is not the one
- * of that length, 18: a speed frame's DATA_BIAS is not 98 * its ticks, and last 10: fewer than 10 numbers. */
+ * of that length, 18: a speed frame's DATA_BIAS is not 128 * its ticks, and last 10: fewer than 10 numbers. */
 uint64_t lta_read_frame(uint64_t lags, const uint8_t *bytes, size_t bytes_len, uint32_t *head, size_t head_len);
 
 /* The part of a frame that holds its lag pairs. LTA_PART_START of the result is the byte at which it starts, counted

@@ -13,12 +13,21 @@ typedef char the_longest_frame[LTA_FRAME_LEN(LTA_LAGS_MOST) == 1058 ? 1 : -1];
 typedef char the_longest_speed_frame[LTA_SPEED_FRAME_LEN(LTA_LAGS_MOST) == 1062 ? 1 : -1];
 typedef char a_part_has_a_start[LTA_PART_START(34 * 65536 + 1024) == 34 ? 1 : -1];
 typedef char a_part_has_a_length[LTA_PART_LEN(34 * 65536 + 1024) == 1024 ? 1 : -1];
+typedef char a_validity_byte_has_two_bits[(LTA_VALIDITY_X | LTA_VALIDITY_Y) == 3 ? 1 : -1];
 typedef char the_longest_page[LTA_PAGE_LEN(LTA_CELLS_MOST) == 3977 ? 1 : -1];
 
+int tick_without_y(const uint64_t *shape, uint64_t *mem, size_t words, uint8_t x);
 int discard(const uint64_t *shape, uint64_t *mem, size_t words, uint64_t cell);
 size_t frame_of(const uint64_t *shape, uint64_t *mem, size_t words, uint8_t *out);
 size_t page_of(const uint64_t *shape, const uint64_t *mem, size_t words, uint8_t *out);
 const uint8_t *pairs_of(const uint64_t *shape, uint64_t *mem, size_t words, uint8_t *out, size_t *length);
+
+/* 1 where a tick whose Y sample is invalid finds the one cell of a run full, and else 0. */
+int tick_without_y(const uint64_t *shape, uint64_t *mem, size_t words, uint8_t x) {
+    const uint8_t samples[] = {x, 0, LTA_VALIDITY_X};
+    uint64_t result = lta_tick(shape, LTA_SHAPE_LEN, mem, words, samples, sizeof samples);
+    return LTA_REFUSAL(result) == LTA_REFUSAL_NONE && LTA_ANSWER(result) == 1;
+}
 
 /* 1 where what was open went to loss 1, 0 where it did not, and else the refusal, negative. */
 int discard(const uint64_t *shape, uint64_t *mem, size_t words, uint64_t cell) {

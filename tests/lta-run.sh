@@ -43,10 +43,15 @@ inputs() {
     lta_run </dev/null >"$work/out"
     case_of "no record" 0 nothing
     holds [ "$(cat "$work/out")" = "END 0" ]
-    printf 'TK\002\003TK' | lta_run >"$work/out"
+    printf 'TK\002\003\003TK\002\003' | lta_run >"$work/out"
     case_of "a cut record" 17 nothing
     holds [ "$(cat "$work/out")" = "TK 0 0
 END 17" ]
+    printf 'TK\002\003\200TK\002\003\003' | lta_run >"$work/out"
+    case_of "a validity byte with another bit" 0 nothing
+    holds [ "$(cat "$work/out")" = "TK 19
+TK 0 0
+END 0" ]
     lta_run <&- >"$work/out"
     case_of "standard input closed" 1 "standard input is closed"
     lta_run <"$work" >"$work/out"
@@ -57,7 +62,7 @@ END 17" ]
 }
 
 outputs() {
-    awk 'BEGIN { for (i = 0; i < 60000; i++) printf "TK\002\003" }' >"$work/long"
+    awk 'BEGIN { for (i = 0; i < 60000; i++) printf "TK\002\003\003" }' >"$work/long"
     lta_run <"$work/long" >"$work/out"
     case_of "many lines" 0 nothing
     holds [ "$(uniq -c "$work/out" | tr -s ' ')" = " 60000 TK 0 0
@@ -82,7 +87,7 @@ signals() {
     watch=$!
     exec 5>"$work/in" 6<"$work/lines"
     for turn in 1 2 3; do
-        printf 'TK\002\003' >&5
+        printf 'TK\002\003\003' >&5
         read -r line <&6 || line="no line $turn"
         holds [ "$line" = "TK 0 0" ]
     done
@@ -90,7 +95,7 @@ signals() {
     wait "$run" 2>/dev/null && echo 0 >"$work/status" || echo $? >"$work/status"
     case_of "ended by a signal" 143 nothing
     tries=0
-    while (printf 'TK\002\003' >&5) 2>/dev/null; do
+    while (printf 'TK\002\003\003' >&5) 2>/dev/null; do
         tries=$((tries + 1))
         [ "$tries" -le 5 ] || wrong "the program still reads after its command was ended"
         sleep 1

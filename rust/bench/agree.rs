@@ -39,6 +39,20 @@ impl Pair {
         Pair { shape, proved: Proved::new(shape), peer: Peer::new(shape), noise: Noise::new(seed), calls: 0 }
     }
 
+    /// A tick, at times with a byte too few, and at times with another bit in a validity byte.
+    fn tick(&mut self) {
+        let noise = &mut self.noise;
+        let mut samples = noise.samples(self.shape.cells);
+        if noise.below(50) == 0 {
+            let cell = noise.below(self.shape.cells) as usize;
+            samples[3 * cell + 2] |= 4 << noise.below(6);
+        }
+        if noise.below(50) == 0 {
+            samples.pop();
+        }
+        same("tick", self.proved.tick(&samples), self.peer.tick(&samples));
+    }
+
     fn emit(&mut self, cell: u64, bank: u64, bin: u64) {
         let length = self.shape.frame_length() - self.noise.below(8).saturating_sub(6) as usize;
         let (mut one, mut other) = (vec![0; length], vec![0; length]);
@@ -104,11 +118,7 @@ impl Pair {
         let (command, phase) = (noise.below(9), noise.near((s.bins / s.blocks).min(2)));
         let (offset, lag, loss) = (noise.near(s.blocks), noise.near(s.lags), noise.near(7));
         match kind {
-            0..=7 => {
-                let short = usize::from(noise.below(50) == 0);
-                let samples = noise.samples(2 * s.cells as usize - short);
-                same("tick", self.proved.tick(&samples), self.peer.tick(&samples));
-            }
+            0..=7 => self.tick(),
             8..=10 => self.dump(cell, command, bank, phase),
             11..=12 => same("integrate", self.proved.integrate(cell), self.peer.integrate(cell)),
             13 => self.emit(cell, bank, phase * s.blocks + offset),
@@ -154,10 +164,11 @@ impl Pair {
         self.peer.pretend(right);
     }
 
-    /// Time, flags, labels, stamps, blocks, last commands and counts mean the same in both; ticks do where they pass
-    /// their limit.
+    /// Time, flags, labels, stamps, blocks, last commands and counts mean the same in both; ticks and register entries
+    /// do where they pass their limit.
     fn alter(&mut self) {
-        let row = 3 + 2 * self.shape.lags as usize;
+        let lags = self.shape.lags as usize;
+        let row = 3 + 2 * lags;
         for word in [0, 1, 2, 3, 4, 5, 524_289, 2_147_483_648, 2_147_483_649, u64::MAX] {
             for at in 0..9 {
                 self.with_word(at, word);
@@ -166,6 +177,9 @@ impl Pair {
                 self.with_word(ticks_at + 1, word);
                 self.with_word(ticks_at + 2, word);
                 self.with_word(ticks_at, word.max(2_147_483_649));
+            }
+            for entry in [0, lags / 2, lags + 1] {
+                self.with_word(9 + 8 * row + entry, word.max(512));
             }
         }
     }

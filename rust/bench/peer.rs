@@ -15,7 +15,7 @@ use layout::Layout;
 const OPEN_LIMIT: i64 = 524_288;
 const BIN_LIMIT: i64 = 16_777_215;
 const RUN_LIMIT: i64 = 2_147_483_648;
-const PEAK: i64 = 98;
+const PEAK: i64 = 128;
 
 const FREE: i64 = 0;
 const FILLING: i64 = 1;
@@ -66,12 +66,8 @@ fn host(shape: &Shape, words: usize) -> Result<Layout, Refusal> {
 /// Clears the memory: a fresh run.
 #[inline(never)]
 pub fn setup(shape: &Shape, mem: &mut [i64]) -> Result<(), Refusal> {
-    let layout = host(shape, mem.len())?;
+    host(shape, mem.len())?;
     mem.fill(0);
-    for words in mem[1..].chunks_exact_mut(layout.words()) {
-        words[layout.x()].fill(row::INVALID);
-        words[layout.y()].fill(row::INVALID);
-    }
     Ok(())
 }
 
@@ -79,15 +75,18 @@ pub fn setup(shape: &Shape, mem: &mut [i64]) -> Result<(), Refusal> {
 #[inline(never)]
 pub fn tick(shape: &Shape, mem: &mut [i64], samples: &[u8]) -> Result<u32, Refusal> {
     let layout = host(shape, mem.len())?;
-    check(samples.len() as u64 == 2 * shape.cells, Refusal::WrongSamples)?;
+    check(samples.len() as u64 == 3 * shape.cells, Refusal::WrongSamples)?;
+    let mut sampled = samples.chunks_exact(3);
+    check(sampled.all(|bytes| bytes[2] <= 3), Refusal::BadValidity)?;
     let t = mem[0];
     check(t != RUN_LIMIT, Refusal::RunFull)?;
     let mut cells = mem[1..].chunks_exact(layout.words());
     let sound = (0..=RUN_LIMIT).contains(&t) && cells.all(|words| CellRef { layout, words }.tick_ok(t));
     check(sound, Refusal::Damaged)?;
     let mut held_off = 0;
-    for (words, xy) in mem[1..].chunks_exact_mut(layout.words()).zip(samples.chunks_exact(2)) {
-        held_off += u32::from(Cell { layout, words }.tick(xy[0], xy[1]));
+    for (cell, words) in mem[1..].chunks_exact_mut(layout.words()).enumerate() {
+        let bytes = &samples[3 * cell..][..3];
+        held_off += u32::from(Cell { layout, words }.tick(bytes[0], bytes[1], bytes[2]));
     }
     mem[0] = t + 1;
     Ok(held_off)

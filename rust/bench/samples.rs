@@ -27,7 +27,12 @@ impl Noise {
         }
     }
 
-    pub fn samples(&mut self, count: usize) -> Vec<u8> {
-        (0..count).map(|_| self.next() as u8).collect()
+    /// X, Y and validity byte of each of so many cells: any samples and phases, one sample in 16 invalid.
+    pub fn samples(&mut self, cells: u64) -> Vec<u8> {
+        (0..cells).flat_map(|_| [self.next() as u8, self.next() as u8, self.validity()]).collect()
+    }
+
+    fn validity(&mut self) -> u8 {
+        [1, 2].into_iter().filter(|_| self.below(16) != 0).sum()
     }
 }

@@ -22,7 +22,7 @@ fn ticks<E: Engine>(engine: &mut E, shape: &Shape, samples: &[Vec<u8>], times: u
 
 fn samples_of(shape: &Shape) -> Vec<Vec<u8>> {
     let mut noise = Noise::new(7);
-    (0..TICKS).map(|_| noise.samples(2 * shape.cells as usize)).collect()
+    (0..TICKS).map(|_| noise.samples(shape.cells)).collect()
 }
 
 /// One tick of a run of this shape.
@@ -90,7 +90,7 @@ fn round<E: Engine>(engine: &mut E, shape: &Shape, samples: &[u8], out: &mut [u8
 
 fn rounds<E: Engine>(engine: &mut E, shape: &Shape, times: usize) -> [f64; 6] {
     let mut out = vec![0; length(SPEED, shape.lags)];
-    let samples = Noise::new(11).samples(2 * shape.cells as usize);
+    let samples = Noise::new(11).samples(shape.cells);
     let mut spent = [Duration::ZERO; 6];
     for _ in 0..times {
         let more = round(engine, shape, &samples, &mut out);

@@ -11,7 +11,7 @@
 //! let shape = [1, 2, 1, 1, 0, 4, 0];
 //! let mut mem = vec![0; outcome(words_needed(&shape))? as usize];
 //! outcome(setup(&shape, &mut mem))?;
-//! assert_eq!(outcome(tick(&shape, &mut mem, &[0x02, 0x03])), Ok(0));
+//! assert_eq!(outcome(tick(&shape, &mut mem, &[0x02, 0x03, 0b11])), Ok(0));
 //! assert_eq!(outcome(tick(&shape, &mut mem, &[])), Err(lta::Refusal::WrongSamples));
 //! # Ok::<(), lta::Refusal>(())
 //! ```
@@ -28,7 +28,7 @@ use crate::Refusal;
 pub fn outcome(result: u64) -> Result<u32, Refusal> {
     match (result >> 32) as u32 {
         0 => Ok(result as u32),
-        number => Err(Refusal::from_number(number).expect("the engine gives the numbers 1 to 18")),
+        number => Err(Refusal::from_number(number).expect("the engine gives the numbers 1 to 19")),
     }
 }
 
@@ -142,7 +142,7 @@ pub fn setup(shape: &[u64], mem: &mut [u64]) -> u64 {
     unsafe { c::lta_setup(shape.as_ptr(), shape.len(), mem.as_mut_ptr(), mem.len()) }
 }
 
-/// One tick: an X byte and a Y byte for each cell in turn; answers the number of cells held off.
+/// One tick: X, Y and validity byte of each cell in turn; answers the number of cells held off.
 pub fn tick(shape: &[u64], mem: &mut [u64], samples: &[u8]) -> u64 {
     // SAFETY: each slice's own pointer and length; mem is lent for this call alone.
     unsafe {

@@ -6,15 +6,16 @@ use crate::Refusal;
 
 /// The kind of a frame.
 ///
-/// A speed frame has a word DATA_BIAS ahead of its lags, 98 × its ticks, which is already taken off them: the lags of
-/// both kinds are plain signed sums.
+/// A speed frame has a word DATA_BIAS ahead of its lags, 128 × its ticks, which is already taken off them: the lags of
+/// both kinds are plain signed sums. Before version 0.5.0 it was 98 × its ticks: of those speed frames the reader
+/// takes the ones without ticks alone.
 ///
 /// ```
 /// use lta::{Fields, Frame, Kind};
 ///
 /// let fields = Fields { kind: Kind::Speed as u32, ticks: 3, ..Fields::default() };
 /// let frame = Frame::write(&fields, &[(6, 0), (10, 0)])?;
-/// assert_eq!(frame.bytes()[30..34], (98u32 * 3).to_le_bytes());
+/// assert_eq!(frame.bytes()[30..34], (128u32 * 3).to_le_bytes());
 /// # Ok::<(), lta::Refusal>(())
 /// ```
 #[derive(Clone, Copy, Debug, PartialEq, Eq, Hash)]
@@ -89,10 +90,10 @@ pub struct Complex {
 /// use lta::{Fields, Frame, Refusal};
 ///
 /// let fields = Fields { kind: 2, cell: 3, ticks: 4, centre: 4, ..Fields::default() };
-/// let written = Frame::write(&fields, &[(8, -2), (392, 0)])?;
+/// let written = Frame::write(&fields, &[(8, -2), (512, 0)])?;
 /// let read = Frame::read(2, written.bytes())?;
 /// assert_eq!(read.fields(), &fields);
-/// assert_eq!(read.lags().nth(1), Some((392, 0)));
+/// assert_eq!(read.lags().nth(1), Some((512, 0)));
 /// assert_eq!(read.normalised().next().unwrap().unwrap().im, -0.5);
 /// assert_eq!(Frame::read(2, &written.bytes()[1..]), Err(Refusal::WrongLength));
 /// # Ok::<(), Refusal>(())
@@ -149,9 +150,9 @@ impl<'a> Frame<'a> {
     /// use lta::{Fields, Frame};
     ///
     /// let fields = Fields { kind: 2, ticks: 1, ..Fields::default() };
-    /// let frame = Frame::write(&fields, &[(3, -4), (0, 98)])?;
+    /// let frame = Frame::write(&fields, &[(3, -4), (0, 128)])?;
     /// assert_eq!(frame.lag_part(), &frame.bytes()[30..46]);
-    /// let speed = Frame::write(&Fields { kind: 3, ..fields }, &[(3, -4), (0, 98)])?;
+    /// let speed = Frame::write(&Fields { kind: 3, ..fields }, &[(3, -4), (0, 128)])?;
     /// assert_eq!(speed.lag_part(), &speed.bytes()[34..50]);
     /// # Ok::<(), lta::Refusal>(())
     /// ```
@@ -164,8 +165,8 @@ impl<'a> Frame<'a> {
     ///
     /// ```
     /// # let fields = lta::Fields { kind: 2, ticks: 1, ..Default::default() };
-    /// # let frame = lta::Frame::write(&fields, &[(3, -4), (0, 98)])?;
-    /// assert_eq!(frame.lags().collect::<Vec<_>>(), [(3, -4), (0, 98)]);
+    /// # let frame = lta::Frame::write(&fields, &[(3, -4), (0, 128)])?;
+    /// assert_eq!(frame.lags().collect::<Vec<_>>(), [(3, -4), (0, 128)]);
     /// # Ok::<(), lta::Refusal>(())
     /// ```
     pub fn lags(&self) -> impl Iterator<Item = (i32, i32)> + '_ {
@@ -198,11 +199,11 @@ impl<'a> Frame<'a> {
     /// use lta::{Fields, Frame, Refusal};
     ///
     /// let fields = Fields { kind: 2, ticks: 1, ..Fields::default() };
-    /// assert!(Frame::write(&fields, &[(3, -4), (0, 98)]).is_ok());
-    /// assert_eq!(Frame::write(&fields, &[(3, -4), (0, 99)]), Err(Refusal::BadField));
+    /// assert!(Frame::write(&fields, &[(3, -4), (0, 128)]).is_ok());
+    /// assert_eq!(Frame::write(&fields, &[(3, -4), (0, 129)]), Err(Refusal::BadField));
     /// assert_eq!(Frame::write(&fields, &[(3, -4)]), Err(Refusal::BadShape));
-    /// assert!(Frame::write(&Fields { kind: 3, ..fields }, &[(3, -4), (0, 98)]).is_ok());
-    /// assert_eq!(Frame::write(&Fields { kind: 4, ..fields }, &[(3, -4), (0, 98)]), Err(Refusal::BadField));
+    /// assert!(Frame::write(&Fields { kind: 3, ..fields }, &[(3, -4), (0, 128)]).is_ok());
+    /// assert_eq!(Frame::write(&Fields { kind: 4, ..fields }, &[(3, -4), (0, 128)]), Err(Refusal::BadField));
     /// ```
     pub fn write(fields: &Fields, lags: &[(i32, i32)]) -> Result<Frame<'static>, Refusal> {
         let numbers: Vec<i32> = lags.iter().flat_map(|&(i, q)| [i, q]).collect();

@@ -3,7 +3,7 @@
 //! A [`Run`] owns its work memory and takes ticks, dumps, integrations and emissions. A [`Frame`] is what an emission
 //! or a speed dump gives, and what the reader accepts of bytes from elsewhere. What is not kept is told by readings,
 //! and in printed lines by a page ([`Run::page`]). A call that is refused gives a [`Refusal`] and changes nothing. What
-//! each call means is in document 01 with the requests up to 2026-04, whose terms are used here.
+//! each call means is in document 01 with the requests up to 2026-06, whose terms are used here.
 //!
 //! The work is done by a static library that is proved to do it ([`ffi`] is its C interface over slices); this crate
 //! adds types and owns the memory. The library keeps nothing between calls, so that all of a run is its shape and its
@@ -16,7 +16,7 @@
 //! # fn main() -> Result<(), lta::Refusal> {
 //! let shape = Shape { cells: 1, lags: 2, bins: 2, blocks: 1, start: 0, rate: 4, second: 0 };
 //! let mut run = Run::new(shape)?;
-//! for samples in [[0x02, 0x03], [0x01, 0x0f], [0x08, 0x02]] {
+//! for samples in [[0x02, 0x03, 0b11], [0x01, 0x0f, 0b11], [0x08, 0x02, 0b10]] {
 //!     run.tick(&samples)?;
 //! }
 //! run.dump(0, Command::Last, 0, 0)?;

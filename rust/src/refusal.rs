@@ -19,7 +19,7 @@ pub enum Refusal {
     BadShape = 1,
     /// Work memory not exactly the needed length.
     WrongMemory = 2,
-    /// Not 2C bytes.
+    /// Not 3C bytes.
     WrongSamples = 3,
     /// t is 2,147,483,648: the run takes no more ticks.
     RunFull = 4,
@@ -49,13 +49,15 @@ pub enum Refusal {
     BadField = 16,
     /// Unknown mark or a cut record in a script.
     BadRecord = 17,
-    /// A speed frame whose DATA_BIAS is not 98 × its ticks.
+    /// A speed frame whose DATA_BIAS is not 128 × its ticks.
     WrongBias = 18,
+    /// A validity byte has another bit set than its lowest two.
+    BadValidity = 19,
 }
 
 impl Refusal {
-    /// Every refusal, in the order 1 to 18.
-    pub const ALL: [Refusal; 18] = [
+    /// Every refusal, in the order 1 to 19.
+    pub const ALL: [Refusal; 19] = [
         Refusal::BadShape,
         Refusal::WrongMemory,
         Refusal::WrongSamples,
@@ -74,14 +76,15 @@ impl Refusal {
         Refusal::BadField,
         Refusal::BadRecord,
         Refusal::WrongBias,
+        Refusal::BadValidity,
     ];
 
-    /// The refusal's number, 1 to 18.
+    /// The refusal's number, 1 to 19.
     pub fn number(self) -> u32 {
         self as u32
     }
 
-    /// The refusal of a number; none but for 1 to 18.
+    /// The refusal of a number; none but for 1 to 19.
     pub fn from_number(number: u32) -> Option<Refusal> {
         let place = number.checked_sub(1)?;
         Refusal::ALL.get(usize::try_from(place).ok()?).copied()
@@ -91,7 +94,7 @@ impl Refusal {
         match self {
             Refusal::BadShape => "a shape value out of its limits",
             Refusal::WrongMemory => "work memory not exactly the needed length",
-            Refusal::WrongSamples => "not 2C bytes",
+            Refusal::WrongSamples => "not 3C bytes",
             Refusal::RunFull => "t is 2,147,483,648",
             Refusal::NoCell => "no such cell",
             Refusal::BadCommand => "command 101, 110 or above 111",
@@ -107,6 +110,7 @@ impl Refusal {
             Refusal::BadField => "a fixed bit wrong, or a field beyond its limits",
             Refusal::BadRecord => "unknown mark or a cut record",
             Refusal::WrongBias => "wrong DATA_BIAS",
+            Refusal::BadValidity => "a validity byte has another bit set",
         }
     }
 }

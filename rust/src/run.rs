@@ -14,7 +14,7 @@ use crate::{Command, Frame, Loss, Moved, Refusal, Shape, Sums};
 /// # fn main() -> Result<(), Refusal> {
 /// let shape = Shape { cells: 1, lags: 4, bins: 1, blocks: 1, start: 0, rate: 1000, second: 0 };
 /// let mut run = Run::new(shape)?;
-/// assert_eq!(run.tick(&[0x07, 0x07])?, 0);
+/// assert_eq!(run.tick(&[0x07, 0x07, 0b11])?, 0);
 /// assert_eq!(run.integrate(0), Err(Refusal::NothingHeld));
 /// assert_eq!(run.dump(0, Command::Discard, 0, 0)?, Moved::Lost(Loss::Ordered));
 /// assert_eq!(run.reading(0, 2, Loss::Ordered)?.ticks, 1);
@@ -55,12 +55,12 @@ impl Run {
     /// # use lta::{Refusal, Run, Shape};
     /// # let shape = Shape { cells: 1, lags: 2, bins: 1, blocks: 1, start: 0, rate: 4, second: 0 };
     /// let mut run = Run::new(shape)?;
-    /// run.tick(&[0x02, 0x03])?;
+    /// run.tick(&[0x02, 0x03, 0b11])?;
     /// let saved = run.words().to_vec();
-    /// run.tick(&[0x01, 0x0f])?;
+    /// run.tick(&[0x01, 0x0f, 0b11])?;
     ///
     /// let mut resumed = Run::resume(shape, saved)?;
-    /// resumed.tick(&[0x01, 0x0f])?;
+    /// resumed.tick(&[0x01, 0x0f, 0b11])?;
     /// assert_eq!(resumed, run);
     /// assert_eq!(Run::resume(shape, vec![0; 86]), Err(Refusal::WrongMemory));
     /// # Ok::<(), Refusal>(())
@@ -83,7 +83,7 @@ impl Run {
     /// ```
     /// # let shape = lta::Shape { cells: 1, lags: 2, bins: 1, blocks: 1, start: 0, rate: 4, second: 0 };
     /// let mut run = lta::Run::new(shape)?;
-    /// run.tick(&[0, 0])?;
+    /// run.tick(&[0, 0, 0])?;
     /// assert_eq!((run.words().len(), run.words()[0]), (87, 1));
     /// # Ok::<(), lta::Refusal>(())
     /// ```
@@ -91,16 +91,20 @@ impl Run {
         &self.words
     }
 
-    /// One tick: an X byte and a Y byte for each cell in turn. Gives the number of cells held off. Refuses 3, 4.
+    /// One tick: an X byte, a Y byte and a validity byte for each cell in turn. Gives the number of cells held off.
+    /// Refuses 3, 19, 4.
     ///
-    /// The low four bits of a byte are the sample, two's complement, 8h for an invalid one; the high four its phase.
+    /// The low four bits of an X or Y byte are its sample, two's complement, -8 to 7; the high four are its phase. Of
+    /// the validity byte bit 0 is set where the X sample is valid, bit 1 where the Y sample is, and no other bit. A
+    /// sample whose bit is clear adds nothing, whatever its four bits are.
     ///
     /// ```
     /// # use lta::{Refusal, Run, Shape};
     /// # let shape = Shape { cells: 1, lags: 2, bins: 1, blocks: 1, start: 0, rate: 4, second: 0 };
     /// let mut run = Run::new(shape)?;
-    /// assert_eq!(run.tick(&[0x37, 0x08]), Ok(0));
-    /// assert_eq!(run.tick(&[0x37]), Err(Refusal::WrongSamples));
+    /// assert_eq!(run.tick(&[0x37, 0x08, 0b01]), Ok(0));
+    /// assert_eq!(run.tick(&[0x37, 0x08]), Err(Refusal::WrongSamples));
+    /// assert_eq!(run.tick(&[0x37, 0x08, 0x80]), Err(Refusal::BadValidity));
     /// # Ok::<(), Refusal>(())
     /// ```
     pub fn tick(&mut self, samples: &[u8]) -> Result<u32, Refusal> {
@@ -128,7 +132,7 @@ impl Run {
     /// }
     /// assert_eq!(run.dump(0, Command::Add, 0, 0)?, Moved::Kept);
     /// assert_eq!(run.dump(0, Command::Add, 0, 0)?, Moved::Lost(Loss::Overrun));
-    /// run.tick(&[0x02, 0x03])?;
+    /// run.tick(&[0x02, 0x03, 0b11])?;
     /// let Moved::Sent(frame) = run.dump(0, Command::Speed, 0, 0)? else { unreachable!() };
     /// assert_eq!((frame.fields().ticks, frame.fields().block), (1, 6));
     /// # Ok::<(), lta::Refusal>(())
@@ -150,7 +154,7 @@ impl Run {
     /// # use lta::{Frame, Kind, Refusal, Run, Shape};
     /// # let shape = Shape { cells: 1, lags: 2, bins: 1, blocks: 1, start: 0, rate: 4, second: 0 };
     /// let mut run = Run::new(shape)?;
-    /// run.tick(&[0x02, 0x03])?;
+    /// run.tick(&[0x02, 0x03, 0b11])?;
     /// let mut out = [0; 60];
     /// assert_eq!(run.speed_dump(0, 0, 0, &mut out[..53]), Err(Refusal::ShortBuffer));
     /// assert_eq!(run.speed_dump(0, 0, 0, &mut out), Ok(54));
@@ -223,8 +227,8 @@ impl Run {
     /// # use lta::{Command, Loss, Refusal, Run, Shape, Sums};
     /// # let shape = Shape { cells: 1, lags: 2, bins: 1, blocks: 1, start: 0, rate: 4, second: 0 };
     /// let mut run = Run::new(shape)?;
-    /// run.tick(&[0x02, 0x03])?;
-    /// run.tick(&[0x01, 0x0f])?;
+    /// run.tick(&[0x02, 0x03, 0b11])?;
+    /// run.tick(&[0x01, 0x0f, 0b11])?;
     /// run.dump(0, Command::Discard, 0, 0)?;
     /// let sums = Sums { i: 12, q: 0, ticks: 2, edge: 1, centre: 1 };
     /// assert_eq!(run.reading(0, 1, Loss::Ordered), Ok(sums));
@@ -259,7 +263,7 @@ impl Run {
     ///         run.dump(0, Command::Add, 0, 0)?;
     ///         run.integrate(0)?;
     ///     }
-    ///     assert_eq!(run.tick(&[0x07, 0x07])?, 0);
+    ///     assert_eq!(run.tick(&[0x07, 0x07, 0b11])?, 0);
     /// }
     /// assert_eq!(run.forecast(0)?, 524_288 - 1_000);
     /// assert_eq!(run.reading(0, 0, Loss::Holdoff)?.ticks, 0);
@@ -299,8 +303,8 @@ impl Run {
     /// # use lta::{Command, Run, Shape};
     /// # let shape = Shape { cells: 1, lags: 2, bins: 1, blocks: 1, start: 0, rate: 4, second: 0 };
     /// let mut run = Run::new(shape)?;
-    /// run.tick(&[0x02, 0x03])?;
-    /// run.tick(&[0x01, 0x0f])?;
+    /// run.tick(&[0x02, 0x03, 0b11])?;
+    /// run.tick(&[0x01, 0x0f, 0b11])?;
     /// run.dump(0, Command::Discard, 0, 0)?;
     /// let page = "
     ///  0 1           2           1           1

@@ -27,7 +27,7 @@ fn turn(run: &mut Run, number: u64) -> Turn {
     let command = COMMANDS[usize::from(x[0] % 6)];
     let pairs = (0..=SHAPE.lags).flat_map(|lag| Loss::ALL.map(|loss| (lag, loss)));
     Turn {
-        held_off: run.tick(&x[..4]),
+        held_off: run.tick(&[x[0], x[1], x[2] % 4, x[3], x[4], x[5] % 4]),
         dumped: run.dump(cell, command, bank, phase),
         integrated: run.integrate(u64::from(x[1]) % 3),
         frame: run.emit_frame(cell, bank, SHAPE.blocks * phase + offset),
@@ -104,7 +104,7 @@ fn damaged_words_are_found_by_the_calls() {
     words[0] = u64::MAX;
     let mut run = Run::resume(SHAPE, words).unwrap();
     let before = run.clone();
-    assert_eq!(run.tick(&[0; 4]), Err(Refusal::Damaged));
+    assert_eq!(run.tick(&[0; 6]), Err(Refusal::Damaged));
     assert_eq!(run.integrate(0), Err(Refusal::Damaged));
     assert_eq!(run.forecast(0), Err(Refusal::Damaged));
     assert_eq!(run.page(), Err(Refusal::Damaged));
@@ -115,13 +115,13 @@ fn damaged_words_are_found_by_the_calls() {
 #[test]
 fn a_torn_copy_can_pass() {
     let mut run = Run::new(SHAPE).unwrap();
-    run.tick(&[0x07; 4]).unwrap();
+    run.tick(&[0x03; 6]).unwrap();
     let earlier = run.words().to_vec();
-    run.tick(&[0x05; 4]).unwrap();
+    run.tick(&[0x02; 6]).unwrap();
     let half = earlier.len() / 2;
     let torn = [&run.words()[..half], &earlier[half..]].concat();
     assert!(torn != earlier && torn != run.words());
-    assert_eq!(Run::resume(SHAPE, torn).unwrap().tick(&[0; 4]), Ok(0));
+    assert_eq!(Run::resume(SHAPE, torn).unwrap().tick(&[0; 6]), Ok(0));
 }
 
 /// Runs of their own on two threads, and one run read by two at once.

@@ -131,6 +131,17 @@ fn again(frame: &Frame, kind: Kind) {
     }
 }
 
+/// The bytes of a tick: at times one too few, at times with another bit in the last validity byte.
+fn samples(turn: u64, x: [u8; 8]) -> Vec<u8> {
+    let mut samples = vec![x[0], x[1], x[2] % 4, x[3], x[4], x[5] % 4];
+    match turn % 50 {
+        0 => samples.truncate(5),
+        1 => samples[5] |= 0x80,
+        _ => {}
+    }
+    samples
+}
+
 #[test]
 fn a_run_is_its_calls() {
     let commands =
@@ -139,7 +150,7 @@ fn a_run_is_its_calls() {
     let mut moves = Vec::new();
     for turn in 0..4000u64 {
         let x = turn.wrapping_mul(0x9e37_79b9_7f4a_7c15).rotate_left(20).to_le_bytes();
-        both.tick(&x[..if turn % 50 == 0 { 3 } else { 4 }]);
+        both.tick(&samples(turn, x));
         let [cell, bank, phase, offset] = [x[4], x[5], x[6], x[7]].map(|byte| u64::from(byte % 16 / 7));
         let command = commands[usize::from(x[0] % 6)];
         moves.extend(both.dump(cell, command, bank, phase));
@@ -167,9 +178,9 @@ fn a_run_is_its_calls() {
 #[test]
 fn a_speed_dump_in_a_lent_buffer() {
     let mut run = Run::new(SHAPE).unwrap();
-    run.tick(&[0x07; 4]).unwrap();
+    run.tick(&[0x03; 6]).unwrap();
     run.dump(0, Command::Last, 0, 0).unwrap();
-    (0..12).for_each(|turn| assert_eq!(run.tick(&[0x17, turn, 0x05, 0x06]), Ok(0)));
+    (0..12).for_each(|turn| assert_eq!(run.tick(&[0x17, turn, 3, 0x05, 0x06, 3]), Ok(0)));
     let mut other = run.clone();
     let mut out = [b'.'; 90];
     assert_eq!(run.speed_dump(0, 1, 1, &mut out), Ok(SHAPE.speed_frame_length()));
@@ -204,7 +215,7 @@ fn speed_dumps_drive_the_block() {
 #[test]
 fn speed_dumps_that_are_refused() {
     let mut run = Run::new(SHAPE).unwrap();
-    run.tick(&[0x07; 4]).unwrap();
+    run.tick(&[0x03; 6]).unwrap();
     let mut damaged = run.words().to_vec();
     damaged[0] = u64::MAX;
     let damaged = Run::resume(SHAPE, damaged).unwrap();
@@ -228,7 +239,7 @@ fn speed_dumps_that_are_refused() {
 #[test]
 fn other_dumps_leave_the_buffer_alone() {
     let mut run = Run::new(SHAPE).unwrap();
-    run.tick(&[0x07; 4]).unwrap();
+    run.tick(&[0x03; 6]).unwrap();
     for command in (0..9).filter(|command| *command != Command::Speed as u64) {
         let dumped = |room: usize| {
             let (mut mem, mut out) = (run.words().to_vec(), [b'.'; 90]);
@@ -264,7 +275,7 @@ fn refusals_have_their_numbers() {
         assert_eq!((refusal.number(), Refusal::from_number(number)), (number, Some(refusal)));
         assert!(refusal.to_string().starts_with(&format!("refusal {number}: ")));
     }
-    assert_eq!([0, 19, u32::MAX].map(Refusal::from_number), [None; 3]);
+    assert_eq!([0, 20, u32::MAX].map(Refusal::from_number), [None; 3]);
 }
 
 #[test]

@@ -2,11 +2,12 @@
 use mathlib.Core.Path.{_≡_, refl, sym, ap, _∙_}
 use mathlib.Core.Bool.{Bool, true, false, cond}
 use mathlib.Core.List.{List, [], _∷_}
-use Prim.Native.Nat.{ℕ, zero, suc, _+_, _*_, _<_, _≤_}
+use Prim.Native.Nat.{ℕ, zero, suc, _+_, _*_, _/_, _%_, _<_, _≤_}
 use native.Mathlib.Nat.{not-suc-le-zero, le-of-suc-le-suc}
 use native.Mathlib.Omega.{arith}
 use lib.ListN.{length, getD, set, take, drop}
 use lib.Seq.{getD-drop}
+use Rattle.lta_spec.specs.Row.{entryWord, xEntry, yEntry}
 use Rattle.lta_spec.specs.Engine.{Unit, hasRoom, tickUnit}
 use Rattle.lta_spec.specs.Damage.{tickSound}
 use Rattle.lta_spec.specs.Memory.{Run, runL}
@@ -25,24 +26,32 @@ pub ticked-at : (n c : ℕ) (samples : List ℕ) (us : List Unit) (d : Unit)
     → getD (tickedTo n c samples us) c d ≡ getD us c d
 ticked-at n zero samples us d = refl
 ticked-at n (suc c) samples [] d = refl
-ticked-at n (suc c) samples (u ∷ us) d = ticked-at n c (drop 2 samples) us d
+ticked-at n (suc c) samples (u ∷ us) d = ticked-at n c (drop 3 samples) us d
+
+-- the entries of its bytes
+abbrev pub xAt : (samples : List ℕ) (c : ℕ) → ℕ
+xAt samples c = entryWord (getD samples (3 * c) 0) (getD samples (3 * c + 2) 0 % 2)
+
+abbrev pub yAt : (samples : List ℕ) (c : ℕ) → ℕ
+yAt samples c = entryWord (getD samples (3 * c + 1) 0) (getD samples (3 * c + 2) 0 / 2 % 2)
+
+byte-next : (samples : List ℕ) (i k : ℕ) → i ≡ 3 + k → getD samples i 0 ≡ getD (drop 3 samples) k 0
+byte-next samples i k e = rw e (sym (getD-drop 3 samples k 0))
 
 -- it takes them
 pub ticked-next : (n c : ℕ) (samples : List ℕ) (us : List Unit) (d : Unit) → c < length us
-    → set (tickedTo n c samples us) c
-    (tickUnit n (getD samples (2 * c) 0) (getD samples (2 * c + 1) 0) (getD us c d))
+    → set (tickedTo n c samples us) c (tickUnit n (xAt samples c) (yAt samples c) (getD us c d))
     ≡ tickedTo n (suc c) samples us
 ticked-next n c samples [] d h = absurd (not-suc-le-zero h)
 ticked-next n zero samples (u ∷ us) d h = refl
 ticked-next n (suc c) samples (u ∷ us) d h =
-    let e : 2 * suc c ≡ 2 + 2 * c = omega arith in
-    let f : 2 * suc c + 1 ≡ 2 + (2 * c + 1) = omega arith in
-    let x : getD samples (2 * suc c) 0 ≡ getD (drop 2 samples) (2 * c) 0 =
-    rw e (sym (getD-drop 2 samples (2 * c) 0)) in
-    let y : getD samples (2 * suc c + 1) 0 ≡ getD (drop 2 samples) (2 * c + 1) 0 =
-    rw f (sym (getD-drop 2 samples (2 * c + 1) 0)) in
-    ap (λ (r : List Unit). tickUnit n (getD samples 0 0) (getD samples 1 0) u ∷ r)
-    (rw (x, y) (ticked-next n c (drop 2 samples) us d (le-of-suc-le-suc h)))
+    ap (λ (r : List Unit). tickUnit n (xEntry samples) (yEntry samples) u ∷ r)
+    (rw (
+      byte-next samples (3 * suc c) (3 * c) (omega arith),
+      byte-next samples (3 * suc c + 1) (3 * c + 1) (omega arith),
+      byte-next samples (3 * suc c + 2) (3 * c + 2) (omega arith),
+    )
+    (ticked-next n c (drop 3 samples) us d (le-of-suc-le-suc h)))
 
 -- all have
 pub ticked-all : (s : Shape) (samples : List ℕ) (us : List Unit)
@@ -50,8 +59,8 @@ pub ticked-all : (s : Shape) (samples : List ℕ) (us : List Unit)
 unfolding tickUnits
 ticked-all s samples [] = refl
 ticked-all s samples (u ∷ us) =
-    ap (λ (r : List Unit). tickUnit (s .lags) (getD samples 0 0) (getD samples 1 0) u ∷ r)
-    (ticked-all s (drop 2 samples) us)
+    ap (λ (r : List Unit). tickUnit (s .lags) (xEntry samples) (yEntry samples) u ∷ r)
+    (ticked-all s (drop 3 samples) us)
 
 -- how many are held off
 pub held-next : (s : Shape) (c : ℕ) (us : List Unit) (d : Unit) → c < length us
@@ -101,7 +110,7 @@ module _ (s : Shape) (mem₀ : List ℕ) (h : Hosted s mem₀) (samples : List �
 
     -- it does
     pub has-ticked : (held : ℕ) (vs : List ℕ)
-        → TickedAt s c (getD samples (2 * c) 0) (getD samples (2 * c + 1) 0) (runOf s mem) held vs
+        → TickedAt s c (xAt samples c) (yAt samples c) (runOf s mem) held vs
         → Lays (runL s) vs (runTo s mem₀ samples (suc c))
     has-ticked held vs q =
         let r = runOf s mem₀ in

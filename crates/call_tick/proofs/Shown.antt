@@ -8,6 +8,7 @@ use lib.ListN.{length}
 use borrow.Author.Tests.{eqb-true}
 use Rattle.lta_spec.specs.Shape.{runLimit}
 use Rattle.lta_spec.specs.Size.{hostTests}
+use Rattle.lta_spec.specs.Call.{samplesOk, validityOk}
 use Rattle.lta_spec.specs.Call.Call.{tick}
 use Rattle.lta_spec.specs.Step as S
 use Rattle.lta_spec.specs.declared.Shape.{Shape}
@@ -19,7 +20,7 @@ use Rattle.call_run.proofs.StepLaws.{sound-shown, verdict-is}
 
 pub record TicksAll (s : Shape) (mem samples : List ℕ) : Type 0 where
   pub hosted : Hosted s mem
-  pub counted : length samples ≡ 2 * s .cells
+  pub counted : length samples ≡ 3 * s .cells
   pub limited : (runOf s mem) .t ≤ runLimit
   pub sound : S.unitsSound s ((runOf s mem) .t) ((runOf s mem) .units) ≡ true
 
@@ -29,12 +30,13 @@ ticks-all s mem samples e =
     let q =
     both-passed (hostTests s (length mem)) (S.callTests s (tick samples) r)
     (sym (e ∙ verdict-is s mem (tick samples))) in
-    let x = pass (eqb (length samples) (2 * s .cells)) _ _ (q .1) in
-    let y = pass (not (eqb (r .t) runLimit)) _ _ (x .1) in
+    let x = pass (samplesOk (s .cells) samples) _ _ (q .1) in
+    let v = pass (validityOk (s .cells) samples) _ _ (x .1) in
+    let y = pass (not (eqb (r .t) runLimit)) _ _ (v .1) in
     let z = sound-shown (r .t) (S.unitsSound s (r .t) (r .units)) _ (y .1) in
     record {
       hosted = q .0;
-      counted = eqb-true (length samples) (2 * s .cells) (x .0);
+      counted = eqb-true (length samples) (3 * s .cells) (x .0);
       limited = z .0;
       sound = z .1;
     }

@@ -3,7 +3,8 @@ use mathlib.Core.Path.{_≡_}
 use mathlib.Core.Bool.{true, cond}
 use mathlib.Core.List.{List, [], _∷_}
 use Prim.Native.Nat.{ℕ, zero, suc}
-use lib.ListN.{getD, set, drop}
+use lib.ListN.{set, drop}
+use Rattle.lta_spec.specs.Row.{xEntry, yEntry}
 use Rattle.lta_spec.specs.Engine.{Unit, hasRoom, tickUnit}
 use Rattle.lta_spec.specs.Damage.{tickSound}
 use Rattle.lta_spec.specs.Memory.{Run, runL}
@@ -17,7 +18,7 @@ abbrev pub tickedTo : (n c : ℕ) (samples : List ℕ) → List Unit → List Un
 tickedTo n zero samples us = us
 tickedTo n (suc c) samples [] = []
 tickedTo n (suc c) samples (u ∷ us) =
-    tickUnit n (getD samples 0 0) (getD samples 1 0) u ∷ tickedTo n c (drop 2 samples) us
+    tickUnit n (xEntry samples) (yEntry samples) u ∷ tickedTo n c (drop 3 samples) us
 
 -- there is a cell c, and a tick finds it as the engine leaves it
 pub record Ticks (s : Shape) (mem : List ℕ) (c : ℕ) : Type 0 where

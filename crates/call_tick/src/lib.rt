@@ -8,6 +8,7 @@ use lta_spec::Shape;
 use lta_spec::Ticked;
 use lta_spec::Verdict;
 use shape::cell_words;
+use signal::entry_of;
 ghost use mathlib.Core.Path.{_≡_};
 ghost use mathlib.Core.Bool.{true};
 ghost use Prim.Native.Nat.{_*_};
@@ -20,8 +21,8 @@ ghost use Rattle.cell_layout.specs.Lays.{Lays};
 ghost use Rattle.call_run.specs.Runs.{Hosted, runOf};
 ghost use Rattle.call_tick.specs.Cells.{Ticks, TickedAt};
 
-// A tick of cell c; answers 1 where the cell is held off and else 0.
-fn tick_at(s: Shape, mem: &mut [u64], c: u64, x: u8, y: u8) -> u64
+// A tick of cell c that brings the entries x and y; answers 1 where the cell is held off and else 0.
+fn tick_at(s: Shape, mem: &mut [u64], c: u64, x: u64, y: u64) -> u64
     requires { ⌜ Ticks s (now mem) c ⌝ }
     ensures { λ r. ⌜ TickedAt s c x y (runOf s (now (mem .entry))) r (now (mem .exit)) ⌝ }
 {
@@ -32,9 +33,10 @@ fn tick_at(s: Shape, mem: &mut [u64], c: u64, x: u8, y: u8) -> u64
     tick_cell(&mut mem[at..e], n, bins, x, y)
 }
 
-// An X and a Y sample for each cell in turn; answers how many cells are held off.
+// An X, a Y and a validity byte for each cell in turn, its bit 0 for X and bit 1 for Y; answers how many cells are held
+// off.
 fn tick_cells(s: Shape, mem: &mut [u64], samples: &[u8]) -> u64
-    requires { ⌜ Hosted s (now mem) × (length (now samples) ≡ 2 * s .cells)
+    requires { ⌜ Hosted s (now mem) × (length (now samples) ≡ 3 * s .cells)
         × (unitsSound s ((runOf s (now mem)) .t) ((runOf s (now mem)) .units) ≡ true) ⌝ }
     ensures { λ r. ⌜ (r ≡ heldOff s ((runOf s (now (mem .entry))) .units))
         × Lays (runL s) (now (mem .exit))
@@ -47,9 +49,10 @@ fn tick_cells(s: Shape, mem: &mut [u64], samples: &[u8]) -> u64
     let mut held: u64 = 0;
     let mut c: u64 = 0;
     while c < cells {
-        let i = 2 * c as usize;
-        let x = samples[i];
-        let y = samples[i + 1];
+        let i = 3 * c as usize;
+        let valid = samples[i + 2];
+        let x = entry_of(samples[i], valid % 2);
+        let y = entry_of(samples[i + 1], valid / 2 % 2);
         held = held + tick_at(s, &mut *mem, c, x, y);
         c += 1;
     }

@@ -11,7 +11,7 @@ use lib.Seq.{getD-drop, ext-getD}
 use borrow.Author.Tests.{leb-true, ltb-true, ltb-false}
 use Rattle.lta_spec.specs.Words.{zeros, every}
 use Rattle.lta_spec.specs.Row.{ticksOf, sumOk, rowOk}
-use Rattle.lta_spec.specs.Shape.{runLimit}
+use Rattle.lta_spec.specs.Shape.{runLimit, peak}
 use Rattle.lta_spec.specs.Layout.{Layout, block}
 use Rattle.lta_spec.proofs.WordLaws.{length-zeros}
 use Rattle.lta_spec.proofs.TestLaws.{and-le, every-at}
@@ -31,8 +31,8 @@ lt-or-le a b = by-test (ltb a b) refl
     by-test false e = inr (ltb-false a b e)
 
 module _ (limit : ℕ) (r : List ℕ) (ok : rowOk limit r ≡ true) where
-  -- every word of the row is at most 196 times its ticks
-  pub word-within : (i : ℕ) → i < length r → getD r i 0 ≤ 196 * ticksOf r
+  -- every word of the row is at most twice the peak for each of its ticks
+  pub word-within : (i : ℕ) → i < length r → getD r i 0 ≤ 2 * peak * ticksOf r
   unfolding rowOk
   word-within i h =
       let a = and-le (ticksOf r) limit _ ok in
@@ -41,14 +41,14 @@ module _ (limit : ℕ) (r : List ℕ) (ok : rowOk limit r ≡ true) where
       at (b .0) (c .0) (c .1) i h
     where
       at : getD r 1 0 ≤ ticksOf r → getD r 2 0 ≤ ticksOf r → every (sumOk (ticksOf r)) (drop 3 r) ≡ true → (i : ℕ)
-          → i < length r → getD r i 0 ≤ 196 * ticksOf r
+          → i < length r → getD r i 0 ≤ 2 * peak * ticksOf r
       at b c e zero h = omega arith
       at b c e (suc zero) h = omega arith
       at b c e (suc (suc zero)) h = omega arith
       at b c e (suc (suc (suc j))) h =
           let z : 3 + j ≡ suc (suc (suc j)) = omega arith in
           let k : j < length (drop 3 r) = simp length-drop (omega arith) in
-          let g : getD (drop 3 r) j 0 ≤ 196 * ticksOf r =
+          let g : getD (drop 3 r) j 0 ≤ 2 * peak * ticksOf r =
           leb-true _ _ (every-at (sumOk (ticksOf r)) (drop 3 r) e j 0 k) in
           rw (← z) (omega (arith, getD-drop 3 r j 0))
 

@@ -3,7 +3,7 @@ use mathlib.Core.Path.{_≡_}
 use mathlib.Core.List.{List}
 use Prim.Native.Nat.{ℕ, _*_, _≤_}
 use lib.ListN.{length, getD}
-use Rattle.lta_spec.specs.Shape.{runLimit}
+use Rattle.lta_spec.specs.Shape.{runLimit, peak}
 use Rattle.lta_spec.specs.Size.{cellWords}
 use Rattle.lta_spec.specs.Place.{Cell}
 use Rattle.lta_spec.specs.Engine.{Row, Counter, Unit}
@@ -37,7 +37,7 @@ Changes n bins f l m = Lays (unitL n bins) m (withPlaces (unitOf n bins l) (f (p
 
 -- the most that a word of a row within its limits holds
 abbrev pub sumLimit : ℕ
-sumLimit = 196 * runLimit
+sumLimit = 2 * peak * runLimit
 
 -- two words of such rows have a sum that fits a word
 abbrev pub Small : Row → Type 0

@@ -10,7 +10,7 @@ use lib.ListN.{getD}
 use mir.Syntax.{w64}
 use mir.Val.{SFits, toZ, ofZ}
 use mir.Facts.{toZ-ofZ}
-use Rattle.lta_spec.specs.Shape.{openLimit, runLimit}
+use Rattle.lta_spec.specs.Shape.{openLimit, runLimit, peak}
 use Rattle.lta_spec.specs.Size.{rowWords}
 use Rattle.lta_spec.specs.Place.{lossCount}
 use Rattle.lta_spec.specs.Row.{ticksOf, unbiased, rowOk}
@@ -58,5 +58,5 @@ module _ {l : List ℕ} {n bins : ℕ} (f : Fits l n bins) where
       loss-unbiased j k =
           let r : Row = lossAt n i ((placesOf n bins l) .losses) in
           toZ-ofZ
-          (difference (getD r j 0) (98 * ticksOf r) (omega (arith, loss-small f i h ok j))
+          (difference (getD r j 0) (peak * ticksOf r) (omega (arith, loss-small f i h ok j))
           (omega (arith, ticks-within runLimit r (loss-ok f i h ok))))

@@ -7,7 +7,6 @@ use lib.ListN.{length, take}
 use lib.Seq.{length-take-le}
 use Rattle.lta_spec.specs.Words.{part, splice}
 use Rattle.lta_spec.specs.Size.{depth}
-use Rattle.lta_spec.specs.Row.{entryWord}
 use Rattle.lta_spec.specs.Engine as E
 use Rattle.lta_spec.specs.Engine.{Unit}
 use Rattle.lta_spec.specs.Memory.{unitL}
@@ -18,12 +17,12 @@ use Rattle.cell_layout.proofs.Fields as F
 use Rattle.cell_shift.specs.Shifts.{moved}
 
 -- a register as long as it was
-length-shifted : (n byte : ℕ) (r : List ℕ) → length r ≡ depth n → length (E.shifted n byte r) ≡ depth n
-length-shifted n byte r e = length-take-le (depth n) (entryWord byte ∷ r) (omega arith)
+length-shifted : (n entry : ℕ) (r : List ℕ) → length r ≡ depth n → length (E.shifted n entry r) ≡ depth n
+length-shifted n entry r e = length-take-le (depth n) (entry ∷ r) (omega arith)
 
 -- the words after a register of `depth n` entries at `at` moved
-abbrev pub shiftedAt : (l : List ℕ) (n at byte : ℕ) → List ℕ
-shiftedAt l n at byte = splice l at (take (depth n) (entryWord byte ∷ part at (depth n) l))
+abbrev pub shiftedAt : (l : List ℕ) (n at entry : ℕ) → List ℕ
+shiftedAt l n at entry = splice l at (take (depth n) (entry ∷ part at (depth n) l))
 
 module _ (n bins : ℕ) {l : List ℕ} {u : Unit} (s : Lays (unitL n bins) l u) where
   -- the registers move, X and then Y

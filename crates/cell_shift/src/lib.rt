@@ -7,8 +7,8 @@ ghost use Rattle.cell_layout.specs.Lays.{Lays};
 ghost use Rattle.cell_layout.specs.Cells.{Fits, unitOf};
 ghost use Rattle.cell_shift.specs.Shifts.{moved};
 
-// Both shift registers move.
-pub fn shift_both(cell: &mut [u64], n: usize, bins: usize, x: u8, y: u8)
+// Both shift registers move: they take the entries x and y.
+pub fn shift_both(cell: &mut [u64], n: usize, bins: usize, x: u64, y: u64)
     requires { ⌜ Fits (now cell) n bins ⌝ }
     ensures { λ _. ⌜ Lays (unitL n bins) (now (cell .exit)) (moved n x y (unitOf n bins (now (cell .entry)))) ⌝ }
 {

@@ -2,14 +2,14 @@
 use mathlib.Core.Path.{_≡_, sym, ap, _∙_}
 use mathlib.Core.Bool.{Bool, true, false, not}
 use mathlib.Core.List.{List, map}
-use Prim.Native.Nat.{ℕ, _+_, _<_, _≤_, _^_}
+use Prim.Native.Nat.{ℕ, _+_, _*_, _<_, _≤_, _^_}
 use native.Mathlib.Omega.{arith}
 use lib.Dec.{eqb, ltb}
 use lib.ListN.{length, getD}
 use mir.Val.{boolByte}
 use borrow.Author.Tests.{ne-eqb, lt-ltb, le-ltb}
 use Rattle.lta_spec.specs.Words.{part, splice, sums}
-use Rattle.lta_spec.specs.Shape.{openLimit}
+use Rattle.lta_spec.specs.Shape.{openLimit, peak}
 use Rattle.lta_spec.specs.Size.{rowWords, depth}
 use Rattle.lta_spec.specs.Place.{holdoff}
 use Rattle.lta_spec.specs.Tick.{Entry}
@@ -97,7 +97,7 @@ module _ (n bins x y : ℕ) (u : Unit) {l : List ℕ} (s : Lays (unitL n bins) l
   row-within false = row-in s (F.loss n bins holdoff (omega arith))
 
   pub row-room : (b : Bool) → Small (u .cell .opened .members) → Small (lossAt n holdoff (u .cell .losses)) → (i : ℕ)
-      → i < rowWords n → getD l (rowFor n b + i) 0 + 196 < 2 ^ 64
+      → i < rowWords n → getD l (rowFor n b + i) 0 + 2 * peak < 2 ^ 64
   row-room true p q i h = omega (arith, row-word s (F.openRow n bins) i h, p i)
   row-room false p q i h = omega (arith, row-word s (F.loss n bins holdoff (omega arith)) i h, q i)
 

@@ -25,8 +25,8 @@ fn tick_row(cell: &[u64], n: usize, bins: usize) -> usize
     held_off
 }
 
-// A tick that is not refused; answers 1 where the cell is held off, else 0.
-pub fn tick_cell(cell: &mut [u64], n: usize, bins: usize, x: u8, y: u8) -> u64
+// A tick that is not refused and brings the entries x and y; answers 1 where the cell is held off, else 0.
+pub fn tick_cell(cell: &mut [u64], n: usize, bins: usize, x: u64, y: u64) -> u64
     requires { ⌜ (Fits (now cell) n bins × (n ≡ 2 * (n / 2))) × Sound n (unitOf n bins (now cell)) ⌝ }
     ensures { λ r. ⌜ Ticked n bins x y (unitOf n bins (now (cell .entry))) r (now (cell .exit)) ⌝ }
 {

@@ -48,6 +48,7 @@ pub fn refusal_code(r: Refusal) -> u32
         Refusal::BadField => 16,
         Refusal::BadRecord => 17,
         Refusal::WrongBias => 18,
+        Refusal::BadValidity => 19,
     }
 }
 

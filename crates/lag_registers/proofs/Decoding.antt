@@ -1,17 +1,16 @@
 -- Registers of n lags that are gathered and decoded.
-use mathlib.Core.Path.{_≡_, refl, sym, subst, ap, _∙_}
-use mathlib.Core.Bool.{Bool, true, false}
+use mathlib.Core.Path.{_≡_, sym, subst, ap, ap₂, _∙_}
 use mathlib.Core.Logic.{_≢_, ⊎-elim}
 use mathlib.Core.List.{List}
 use Prim.Native.Nat.{ℕ, suc, _+_, _*_, _-_, _/_, _%_, _<_, _≤_}
 use native.Mathlib.Nat.{eq-or-lt-of-le, le-of-suc-le-suc, not-suc-le-zero}
 use native.Mathlib.Omega.{arith}
-use lib.Dec.{eqb}
 use lib.ListN.{length, getD, set, length-set}
 use lib.Seq.{getD-set-same, getD-set-other}
+use borrow.Author.Tests.{eq-eqb}
 use Rattle.lta_spec.specs.Size.{depth}
 use Rattle.lta_spec.proofs.WordLaws.{getD-part}
-use Rattle.signal.specs.Signal.{nibbleSample, nibbleValid, sampleOf, phaseOf, validOf}
+use Rattle.signal.specs.Signal.{validSample, sampleOf, phaseOf, validOf}
 use Rattle.lag_registers.specs.Registers.{filled, wordAt, wordBack, word, Decodes, entryAt, entryBack}
 use Rattle.lag_registers.specs.Registers.{DecodedZero, Registers}
 use Rattle.lag_registers.proofs.Loops.{getD-filled}
@@ -88,15 +87,17 @@ module _ (w : ℕ → ℕ) (m : ℕ) where
         other ws j (m + j) (2 * m + j) (sampleOf (w j)) (phaseOf (w j)) (validOf (w j)) (omega arith) (omega arith)
         (omega arith) i (λ e. omega arith) (λ e. omega arith) (λ e. omega arith)
 
--- an entry lies in the low byte of its word
+-- an entry lies in the low bits of its word
+valid-low : (w : ℕ) → validOf (w % 65536) ≡ validOf w
+valid-low w = omega arith
+
 sample-low : (w : ℕ) → sampleOf (w % 65536) ≡ sampleOf w
-sample-low w = let e : w % 65536 % 16 ≡ w % 16 = omega arith in ap nibbleSample e
+sample-low w =
+    let e : w % 65536 % 16 ≡ w % 16 = omega arith in
+    ap₂ validSample (valid-low w) e
 
 phase-low : (w : ℕ) → phaseOf (w % 65536) ≡ phaseOf w
 phase-low w = omega arith
-
-valid-low : (w : ℕ) → validOf (w % 65536) ≡ validOf w
-valid-low w = let e : w % 65536 % 16 ≡ w % 16 = omega arith in ap nibbleValid e
 
 -- decoded from words of which only the low bits were kept
 decodes-low : (v w : ℕ → ℕ) (m k : ℕ) (ws : List ℕ) → ((i : ℕ) → i < k → v i ≡ w i % 65536) → Decodes v m k ws
@@ -109,19 +110,15 @@ decodes-low v w m k ws same d =
     }
 
 -- an entry that is decoded as invalid has a sample of 0
-invalid-zero : (n : ℕ) → nibbleValid n ≡ 0 → nibbleSample n ≡ 0
-invalid-zero n e = by-test (eqb n 0) refl
-  where
-    by-test : (q : Bool) → eqb n 0 ≡ q → nibbleSample n ≡ 0
-    by-test true f = rw f
-    by-test false f = absurd (let one : nibbleValid n ≡ 1 = rw f in omega arith)
+invalid-zero : (w : ℕ) → validOf w ≡ 0 → sampleOf w ≡ 0
+invalid-zero w e = rw (eq-eqb (validOf w) 0 e)
 
 pub decoded-zero : DecodedZero
 decoded-zero =
     record {
       zero = λ w m ws d.
           record {
-            zero = λ i h e. d .sample i h ∙ invalid-zero (w i % 16) (sym (d .valid i h) ∙ e);
+            zero = λ i h e. d .sample i h ∙ invalid-zero (w i) (sym (d .valid i h) ∙ e);
           };
     }
 

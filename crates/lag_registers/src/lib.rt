@@ -1,4 +1,4 @@
-// The shift registers of a cell: they take a sampler byte, and are read decoded, Y the other way round, so that lag 2j
+// The shift registers of a cell: they take an entry, and are read decoded, Y the other way round, so that lag 2j
 // is X[j] · Y[j] and lag 2j + 1 is X[j + 1] · Y[j].
 use signal::phase_of;
 use signal::sample_of;
@@ -9,23 +9,14 @@ ghost use Prim.Native.Nat.{_+_, _*_, _≤_};
 ghost use lib.ListN.{length, take};
 ghost use Rattle.lta_spec.specs.Words.{part, splice};
 ghost use Rattle.lta_spec.specs.Size.{depth};
-ghost use Rattle.lta_spec.specs.Row.{entryWord};
 ghost use Rattle.lag_registers.specs.Registers.{filled, wordAt, wordBack, word, Decodes, Registers};
-
-// A sampler byte as a shift register keeps it: sample + 8, 0 where it is invalid, and 16 × phase.
-fn entry(byte: u8) -> u64
-    ensures { λ r. ⌜ r ≡ entryWord byte ⌝ }
-{
-    let b = byte as u64;
-    (b % 16 + 8) % 16 + 16 * (b / 16 % 16)
-}
 
 // A shift register moves: it takes a new entry, and the oldest falls out. From its end, so that each word is read
 // before it is written.
-pub fn shift(s: &mut [u64], at: usize, depth: usize, byte: u8)
+pub fn shift(s: &mut [u64], at: usize, depth: usize, entry: u64)
     requires { ⌜ (at + depth ≤ length (now s)) × (1 ≤ depth) ⌝ }
     ensures { λ _. ⌜ now (s .exit)
-        ≡ splice (now (s .entry)) at (take depth (entryWord byte ∷ part at depth (now (s .entry)))) ⌝ }
+        ≡ splice (now (s .entry)) at (take depth (entry ∷ part at depth (now (s .entry)))) ⌝ }
 {
     let mut j = depth - 1;
     while j > 0 {
@@ -34,11 +25,11 @@ pub fn shift(s: &mut [u64], at: usize, depth: usize, byte: u8)
         s[k] = newer;
         j -= 1;
     }
-    s[at] = entry(byte);
+    s[at] = entry;
 }
 
-// Gathers the X and Y registers of m entries at x and y in small words: X newest first, Y oldest first. An entry is a
-// byte; two are taken, since that leaves nothing to mask.
+// Gathers the X and Y registers of m entries at x and y in small words: X newest first, Y oldest first. An entry has
+// nine bits; sixteen are taken, since that leaves nothing to mask.
 fn gather(s: &[u64], x: usize, y: usize, m: usize, xs: &mut [u16], ys: &mut [u16])
     requires { ⌜ (x + m ≤ length (now s)) × (y + m ≤ length (now s)) × (m ≤ length (now xs))
         × (m ≤ length (now ys)) ⌝ }

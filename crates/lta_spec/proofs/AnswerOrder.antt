@@ -6,7 +6,7 @@ use Rattle.lta_spec.specs.Size.{memoryWords, hostTests}
 use Rattle.lta_spec.specs.Page.{pageLength}
 use Rattle.lta_spec.specs.Frame.{lengthKind, fieldsOf, fixedOk, fieldsOk, biasOk}
 use Rattle.lta_spec.specs.FrameCalls.{marked, summed, ruled, readVerdict, writeVerdict, normalVerdict}
-use Rattle.lta_spec.specs.Call.{commandOk, dumpFits, phaseOk, emittedFields}
+use Rattle.lta_spec.specs.Call.{validityOk, commandOk, dumpFits, phaseOk, emittedFields}
 use Rattle.lta_spec.specs.Row.{rowOk}
 use Rattle.lta_spec.specs.Engine as E
 use Rattle.lta_spec.specs.Damage as D
@@ -18,7 +18,8 @@ use Rattle.lta_spec.specs.AnswerOrder.{Orders}
 pub orders : Orders
 unfolding
     lagCountOk shapeOk memoryWords hostTests part lengthKind fieldsOf fixedOk fieldsOk biasOk marked summed ruled
-    readVerdict writeVerdict normalVerdict emittedFields commandOk dumpFits phaseOk rowOk E.binAt E.hasRoom E.forecastOf
+    readVerdict writeVerdict normalVerdict emittedFields validityOk commandOk dumpFits phaseOk rowOk E.binAt E.hasRoom
+    E.forecastOf
     E.tickBy E.tickUnit E.resets E.offsetAfter E.keptAs E.counted E.dumpBy E.dumpCell E.holdOpen E.sendOpen S.tickUnits
     S.heldOff S.withDump S.rowFrame S.sends S.dumpsBy S.accepted D.counterOk D.dumpUnitSound D.lossesOk D.tickSound
     D.dumpHolds D.dumpParts D.losesNone D.dumpSound
@@ -29,6 +30,7 @@ orders =
     record {
       sampler = refl;
       sampler-last = refl;
+      sampler-entry = refl;
       commander = refl;
       commander-last = refl;
       commands = refl;
@@ -56,6 +58,7 @@ orders =
       normaliser = refl;
       sender-kinds = refl;
       sender-takes = refl;
+      sender-before = refl;
       normaliser-kinds = refl;
       writer = refl;
       writer-kinds = refl;

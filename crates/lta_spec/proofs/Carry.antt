@@ -6,6 +6,7 @@ use mathlib.Core.List.{List, [], _∷_, _++_, map}
 use lib.Dec.{ltb, eqb}
 use lib.ListN.{getD, set, length, List·getD-map}
 use Rattle.lta_spec.specs.Shape.{binLimit}
+use Rattle.lta_spec.specs.Tick.{Sample}
 use Rattle.lta_spec.specs.Place.{Label, Stamped, Bin, Cell, Result, filling, ready}
 use Rattle.lta_spec.specs.Call.{save, discard, idle, binIndex}
 use Rattle.lta_spec.specs.Machine as M
@@ -38,7 +39,7 @@ map-set f [] i a = refl
 map-set f (x ∷ xs) zero a = refl
 map-set f (x ∷ xs) (suc i) a = ap (λ r. f x ∷ r) (map-set f xs i a)
 
-module _ (n : ℕ) (xs ys : List ℕ) where
+module _ (n : ℕ) (xs ys : List Sample) where
   -- the row of a set under the bytes xs and ys
   abbrev pub row : Ticks → Row
   row = numbers n xs ys

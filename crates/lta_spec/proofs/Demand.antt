@@ -6,6 +6,7 @@ use mathlib.Core.List.{List, [], _∷_, _++_, map, append-nil, append-assoc, map
 use native.Mathlib.Omega.{arith}
 use lib.ListN.{length, getD, replicate}
 use Rattle.lta_spec.specs.Shape.{shapeOk}
+use Rattle.lta_spec.specs.Tick.{Sample}
 use Rattle.lta_spec.specs.Place.{Stamped, Cell}
 use Rattle.lta_spec.specs.Call.{Call}
 use Rattle.lta_spec.specs.Machine as M
@@ -38,7 +39,7 @@ use Rattle.lta_spec.proofs.Frames.{list-framed}
 use Rattle.lta_spec.proofs.ReadBack.{all-back, sums-back}
 
 -- a row is its set's numbers
-equal : (n : ℕ) (xs ys : List ℕ) (s : Ticks) → Equal n xs ys (numbers n xs ys s) s
+equal : (n : ℕ) (xs ys : List Sample) (s : Ticks) → Equal n xs ys (numbers n xs ys s) s
 equal n xs ys s =
     record {
       ticks = numbers-size n xs ys s;
@@ -48,7 +49,7 @@ equal n xs ys s =
       quadrature = stored-quadrature n xs ys s;
     }
 
-equal-stamped : (n : ℕ) (xs ys : List ℕ) (p : Stamped Ticks) → EqualStamped n xs ys (mapStamped (row n xs ys) p) p
+equal-stamped : (n : ℕ) (xs ys : List Sample) (p : Stamped Ticks) → EqualStamped n xs ys (mapStamped (row n xs ys) p) p
 unfolding mapStamped
 equal-stamped n xs ys p = record { numbers = equal n xs ys (p .members); stamp = refl }
 
@@ -75,7 +76,7 @@ equal-cell sh t e m s =
     }
 
 -- the numbers of a related cell's rows and of its frames are those of the sets of its places
-module _ (n : ℕ) (xs ys : List ℕ) (k : ℕ) (h : k < n) where
+module _ (n : ℕ) (xs ys : List Sample) (k : ℕ) (h : k < n) where
   abbrev sumsOf : Ticks → Sums
   sumsOf s = setSums n xs ys s k
 

@@ -10,7 +10,7 @@ use borrow.Author.Tests.{lt-ltb, le-ltb}
 use Rattle.lta_spec.specs.Shape.{lagCountOk, shapeOk, openLimit, binLimit}
 use Rattle.lta_spec.specs.Size.{memoryWords, hostTests}
 use Rattle.lta_spec.specs.Tick.{
-  fromByte,
+  fromSample,
   product,
   weight,
   inPhase,
@@ -25,7 +25,7 @@ use Rattle.lta_spec.specs.Decimal.{decimalWithin, decimal, rightAligned}
 use Rattle.lta_spec.specs.Page.{countsSum, pageLine, cellLines, ledgerLines, pageOf, pageLength}
 use Rattle.lta_spec.specs.Frame.{sealed, frameOf, header, lengthKind, fieldsOf, fixedOk, fieldsOk, biasOk}
 use Rattle.lta_spec.specs.FrameCalls.{marked, summed, ruled, normalVerdict}
-use Rattle.lta_spec.specs.Call.{discard, commandOk, dumpFits, phaseOk, emittedFields}
+use Rattle.lta_spec.specs.Call.{validityOk, discard, commandOk, dumpFits, phaseOk, emittedFields}
 use Rattle.lta_spec.specs.Machine as M
 use Rattle.lta_spec.specs.Machine.{Ticks}
 use Rattle.lta_spec.specs.Numbers as N
@@ -40,8 +40,9 @@ use Rattle.lta_spec.proofs.BlockRows.{block-rows}
 machine-returned : (machineReturns scriptShape script (R.start scriptShape) ≡ scriptReturned)
     × (machineReturns workedShape (callsOf workedRun) (R.start workedShape) ≡ returnedBy workedRun)
 unfolding
-    lagCountOk shapeOk memoryWords hostTests fromByte product weight inPhase quadrature validAt inPhaseAt
-    quadratureAt sealed frameOf header commandOk dumpFits phaseOk emittedFields M.lose M.hasRoom M.tickBy M.tickCell
+    lagCountOk shapeOk memoryWords hostTests fromSample product weight inPhase quadrature validAt inPhaseAt
+    quadratureAt sealed frameOf header validityOk commandOk dumpFits phaseOk emittedFields M.lose M.hasRoom M.tickBy
+    M.tickCell
     M.forecastOf M.loseOpen M.holdOpen M.dumpBy M.dumpCell M.sendOpen M.countsAs M.returns M.oneOn M.counted M.release
     M.stateAfter M.stampAfter M.integrateBy M.binAt M.integrateAt M.integrateCell M.emptyBin N.upTo N.inPhaseSum
     N.quadratureSum N.validCount N.setCounts N.setFrame decimalWithin decimal rightAligned countsSum pageLine
@@ -81,7 +82,7 @@ dumped false false l t c = refl
 
 pub edges : Edges
 unfolding
-    fromByte product weight inPhase quadrature phaseOk M.tickCell M.tickBy M.hasRoom E.tickBy E.hasRoom
+    fromSample product weight inPhase quadrature validityOk phaseOk M.tickCell M.tickBy M.hasRoom E.tickBy E.hasRoom
     M.integrateAt M.integrateBy M.stateAfter M.stampAfter E.integrateAt E.integrateBy M.dumpBy M.dumpCell M.release
     M.binAt M.emptyBin M.forecastOf E.forecastOf lagCountOk normalVerdict marked summed ruled fieldsOf fixedOk
     fieldsOk lengthKind biasOk part
@@ -99,6 +100,13 @@ edges =
       p3-behind = (refl, refl);
       p3-one-ahead = (refl, refl);
       p3-one-behind = (refl, refl);
+      least-by-least = (refl, refl);
+      least-turned = (refl, refl);
+      least-by-most = (refl, refl);
+      clear-x = (refl, refl);
+      clear-y = (refl, refl);
+      clear-counts = refl;
+      least-counts = refl;
       p4 = refl;
       p5 = (refl, refl);
       p6 = refl;
@@ -107,6 +115,10 @@ edges =
       bin-order = refl;
       last-tick = refl;
       run-full = refl;
+      validity = refl;
+      other-bits = refl;
+      next-cell = refl;
+      samples-first = refl;
       refusal-numbers = refl;
       first-applies = refl;
       loss-numbers = refl;

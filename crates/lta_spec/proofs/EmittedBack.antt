@@ -33,7 +33,9 @@ use Rattle.lta_spec.proofs.ByteLaws.{below-all}
 use Rattle.lta_spec.proofs.TestLaws.{and-both, and-le}
 use Rattle.lta_spec.proofs.ShapeLaws.{all-at, Shaped, shaped, index-below}
 use Rattle.lta_spec.proofs.RoundTrips.{Valid, fields-ok, accepted, head-least, written, length-written}
-use Rattle.lta_spec.proofs.RoundTrips.{read-written, lags-read, leaves-read, leaves-lags, leaves-again}
+use Rattle.lta_spec.proofs.WrittenBefore.{refused-now}
+use Rattle.lta_spec.proofs.RoundTrips.{read-written, lags-read, leaves-read, leaves-lags}
+use Rattle.lta_spec.proofs.Rewritten.{leaves-again}
 use Rattle.lta_spec.proofs.Encoding.{sums-within}
 use Rattle.lta_spec.proofs.LayoutLaws.{all-get}
 use Rattle.lta_spec.proofs.MemoryLaws.{UnitOk, BinOk, run-law, run-width}
@@ -236,6 +238,7 @@ round-trip =
       lags-back = leaves-lags;
       bytes-back = λ n s out bytes ok room. leaves-again n s (below-all 256 s bytes) ok out room;
       one-kind = one-kind;
+      written-before = refused-now;
       emitted-back = emitted-back;
       speed-back = speed-back;
     }

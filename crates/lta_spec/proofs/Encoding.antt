@@ -6,13 +6,13 @@ use mathlib.Core.List.{List, [], _∷_}
 use native.Mathlib.Omega.{arith}
 use lib.Dec.{leb, ltb}
 use lib.IntN.{pos, negsuc, natAbs, _-ℤ_}
-use borrow.Author.Tests.{leb-true, leb-false, ltb-true, ltb-false, le-leb, lt-leb, lt-ltb}
+use borrow.Author.Tests.{leb-true, leb-false, ltb-true, ltb-false, le-leb, lt-leb}
 use Rattle.lta_spec.specs.Words.{every}
 use Rattle.lta_spec.specs.Shape.{peak}
 use Rattle.lta_spec.specs.Frame.{within}
-use Rattle.lta_spec.specs.Row.{unbiased, rowLags, sumOk, entryWord}
+use Rattle.lta_spec.specs.Row.{unbiased, rowLags, sumOk}
 use Rattle.lta_spec.specs.Encoding.{Gives, Encoding}
-use Rattle.lta_spec.proofs.TickLaws.{low-digit, high-digit, twice-eight}
+use Rattle.lta_spec.proofs.TickLaws.{low-digit, high-digit, twice-eight, entry-ok}
 
 -- tests that pass together and fail together
 same-test : (a b c d : ℕ) → (a ≤ b → c ≤ d) → (b < a → d < c) → leb a b ≡ leb c d
@@ -47,17 +47,20 @@ pub sums-within : (ticks : ℕ) (ws : List ℕ)
 sums-within ticks [] = refl
 sums-within ticks (w ∷ ws) = rw (sum-within ticks w, sums-within ticks ws)
 
--- the byte that a word was stored from
-from-word : (w : ℕ) → w < 256 → Gives w
+-- the byte and the validity bit that a word was stored from
+from-word : (w : ℕ) → w < 512 → Gives w
 from-word w h =
-    let low : (w % 16 + 8) % 16 < 16 = omega arith in
+    let c : ℕ = (w % 16 + 8) % 16 in
+    let low : c < 16 = omega arith in
     record {
-      byte = (w % 16 + 8) % 16 + 16 * (w / 16);
+      byte = c + 16 * (w / 16 % 16) + 256 * 0;
+      bit = w / 256;
       small = omega arith;
+      either = omega arith;
       stored =
           rw (
-            low-digit ((w % 16 + 8) % 16) (w / 16) low,
-            high-digit ((w % 16 + 8) % 16) (w / 16) low (omega arith),
+            low-digit c (w / 16 % 16) 0 low,
+            high-digit c (w / 16 % 16) 0 low (omega arith),
             twice-eight (w % 16) (omega arith),
           )
           (omega arith);
@@ -67,6 +70,8 @@ pub encoding : Encoding
 encoding =
     record {
       sums = sum-within;
-      entries = λ w e. from-word w (ltb-true w 256 e);
-      bytes = λ w g. rw (← g .stored) (lt-ltb (entryWord (g .byte)) 256 (omega arith));
+      frame-sums = omega arith;
+      loss-sums = omega arith;
+      entries = λ w e. from-word w (ltb-true w 512 e);
+      bytes = λ w g. rw (← g .stored) (entry-ok (g .byte) (g .bit) (g .either));
     }

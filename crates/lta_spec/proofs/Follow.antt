@@ -8,6 +8,7 @@ use lib.Seq.{take-all}
 use Rattle.lta_spec.specs.Refusals.{firstOf, decided}
 use Rattle.lta_spec.specs.Size.{depth, memoryWords, hostTests}
 use Rattle.lta_spec.specs.Words.{zeros, overAll}
+use Rattle.lta_spec.specs.Tick.{Sample}
 use Rattle.lta_spec.specs.Place.{Bin, lossCount}
 use Rattle.lta_spec.specs.Call.{Call, lentTo}
 use Rattle.lta_spec.specs.Answer.{refusal}
@@ -35,11 +36,11 @@ use Rattle.lta_spec.proofs.SameCell.{Same}
 use Rattle.lta_spec.proofs.SameRun.{AllSame, same-length, SameRun, SameDone, verdict-same, accepted-same}
 
 -- a related engine run fits the layout
-rows-ok : (n : ℕ) (xs ys : List ℕ) (ls : List Ticks) → All (RowOk n) (map (row n xs ys) ls)
+rows-ok : (n : ℕ) (xs ys : List Sample) (ls : List Ticks) → All (RowOk n) (map (row n xs ys) ls)
 rows-ok n xs ys [] = tt
 rows-ok n xs ys (s ∷ ls) = (length-numbers n xs ys s, rows-ok n xs ys ls)
 
-bins-ok : (n : ℕ) (xs ys : List ℕ) (bs : List (Bin Ticks)) → All (BinOk n) (map (mapBin (row n xs ys)) bs)
+bins-ok : (n : ℕ) (xs ys : List Sample) (bs : List (Bin Ticks)) → All (BinOk n) (map (mapBin (row n xs ys)) bs)
 unfolding mapBin mapStamped
 bins-ok n xs ys [] = tt
 bins-ok n xs ys (b ∷ bs) = ((tt, (tt, length-numbers n xs ys (b .content .members))), bins-ok n xs ys bs)

@@ -13,6 +13,7 @@ use borrow.Author.Tests.{leb-true, eqb-true, eqb-false}
 use Rattle.lta_spec.specs.Refusals.{firstOf, decided}
 use Rattle.lta_spec.specs.Size.{memoryWords}
 use Rattle.lta_spec.specs.Words.{splice}
+use Rattle.lta_spec.specs.Tick.{Sample}
 use Rattle.lta_spec.specs.Place.{Label, Stamped, Cell, ready}
 use Rattle.lta_spec.specs.Bytes.{numberWord}
 use Rattle.lta_spec.specs.Frame.{accumulated, speedFrame, frameLength, lagWords}
@@ -42,14 +43,14 @@ use Rattle.lta_spec.proofs.Follow.{run-same, accepts, turned}
 
 -- the frames returned so far are those of the unit's sets, whatever bytes come later
 abbrev pub Framed : Shape → (c : ℕ) → List (List ℕ) → R.Unit → Type 0
-Framed sh c fs u = (gx gy : List ℕ) → fs ≡ map (setFrame sh c (gx ++ u .xs) (gy ++ u .ys)) (u .frames)
+Framed sh c fs u = (gx gy : List Sample) → fs ≡ map (setFrame sh c (gx ++ u .xs) (gy ++ u .ys)) (u .frames)
 
 -- a frame's length
-lags-length : (n : ℕ) (xs ys : List ℕ) (s : Ticks) (m k : ℕ) → length (lagSums n xs ys s m k) ≡ 2 * m
+lags-length : (n : ℕ) (xs ys : List Sample) (s : Ticks) (m k : ℕ) → length (lagSums n xs ys s m k) ≡ 2 * m
 lags-length n xs ys s zero k = refl
 lags-length n xs ys s (suc m) k = omega (arith, lags-length n xs ys s m (suc k))
 
-frame-length : (sh : Shape) (c : ℕ) (xs ys : List ℕ) (e : Emitted)
+frame-length : (sh : Shape) (c : ℕ) (xs ys : List Sample) (e : Emitted)
     → length (setFrame sh c xs ys e) ≡ frameLength (e .kind) (sh .lags)
 unfolding setFrame emittedFields
 frame-length sh c xs ys e =
@@ -62,7 +63,7 @@ frame-length sh c xs ys e =
       lags-length (sh .lags) xs ys (e .content .members) (sh .lags) 0,
     )
 
--- a tick's bytes join a unit's
+-- a tick's samples join a unit's
 tick-at : (t : ℕ) (samples : List ℕ) (us : List R.Unit) (c : ℕ) (d : R.Unit) → c < length us
     → (sh : Shape) (fs : List (List ℕ)) → Framed sh c fs (getD us c d)
     → Framed sh c fs (getD (R.tickUnits t samples us) c d)
@@ -73,9 +74,9 @@ tick-at t samples us c d h sh fs p = by-list samples us c h p
         → Framed sh c fs (getD (R.tickUnits t samples us) k d)
     by-list samples [] k h p = absurd (not-suc-le-zero h)
     by-list samples (u ∷ us) zero h p = λ gx gy.
-        rw (append-snoc gx (getD samples 0 0) (u .xs), append-snoc gy (getD samples 1 0) (u .ys)) at
-        (p (gx ++ getD samples 0 0 ∷ []) (gy ++ getD samples 1 0 ∷ []))
-    by-list samples (u ∷ us) (suc k) h p = by-list (drop 2 samples) us k (le-of-suc-le-suc h) p
+        rw (append-snoc gx (R.xSample samples) (u .xs), append-snoc gy (R.ySample samples) (u .ys)) at
+        (p (gx ++ R.xSample samples ∷ []) (gy ++ R.ySample samples ∷ []))
+    by-list samples (u ∷ us) (suc k) h p = by-list (drop 3 samples) us k (le-of-suc-le-suc h) p
 
 -- one unit of a run is set anew
 set-at : (sh : Shape) (ms : List R.Unit) (c d : ℕ) (u d₀ : R.Unit) (fs gs : List (List ℕ)) → c < length ms
@@ -125,7 +126,7 @@ module _ (sh : Shape) (wide : 2 ≤ sh .lags) (e : W.Run) (m : R.Run) (s : SameR
         take-splice out frame _ (frame-length sh d (was .xs) (was .ys) sent)
         (leb-true (frameLength (sent .kind) (sh .lags)) (length out) room)
 
-    later : (gx gy : List ℕ) → frame ≡ setFrame sh d (gx ++ was .xs) (gy ++ was .ys) sent
+    later : (gx gy : List Sample) → frame ≡ setFrame sh d (gx ++ was .xs) (gy ++ was .ys) sent
     later gx gy =
         let same = frame-same sh wide (m .t) (e .units) (m .units) (s .limit) (s .cells) (s .units) d sent x carried in
         sym (same [] []) ∙ same gx gy

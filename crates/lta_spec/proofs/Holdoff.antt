@@ -1,5 +1,5 @@
 -- One call of the plain machine: what it makes of a cell's Open, and of loss 6 of every cell.
-use Prim.Native.Nat.{ℕ, zero, suc, _+_, _*_, _≤_, _<_}
+use Prim.Native.Nat.{ℕ, zero, suc, _+_, _≤_, _<_}
 use mathlib.Core.Path.{_≡_, refl, sym, ap, ap₂, _∙_}
 use mathlib.Core.Bool.{Bool, true, false, cond, not, _&&_}
 use mathlib.Core.List.{List, [], _∷_, _++_, map, append-nil}
@@ -14,7 +14,7 @@ use Rattle.lta_spec.specs.Refusals.{firstOf, decided}
 use Rattle.lta_spec.specs.Shape.{shapeOk, runLimit}
 use Rattle.lta_spec.specs.Size.{memoryWords, hostTests}
 use Rattle.lta_spec.specs.Place.{Label, Bin, Cell, ordered, overrun, full, replaced, tooWide, holdoff, lossCount}
-use Rattle.lta_spec.specs.Call.{Call, lentTo, speed, idle}
+use Rattle.lta_spec.specs.Call.{Call, lentTo, samplesOk, validityOk, speed, idle}
 use Rattle.lta_spec.specs.Call.Call.{tick, dump, integrate, emit, reading, forecast, page}
 use Rattle.lta_spec.specs.Answer.{refusal}
 use Rattle.lta_spec.specs.Machine as M
@@ -27,7 +27,7 @@ use Rattle.lta_spec.specs.Demand.Listed.{onRun}
 use Rattle.lta_spec.specs.Forecasts.{tickTold, dumpTold, wellFormed, openSet, holdoffSet}
 use Rattle.lta_spec.specs.declared.Shape.{Shape}
 use Rattle.lta_spec.specs.declared.Refusal.{Refusal}
-use Rattle.lta_spec.specs.declared.Refusal.the-variants.{WrongSamples, RunFull}
+use Rattle.lta_spec.specs.declared.Refusal.the-variants.{WrongSamples, BadValidity, RunFull}
 use Rattle.lta_spec.specs.declared.Verdict.{Verdict}
 use Rattle.lta_spec.specs.declared.Verdict.the-variants.{Accepted, Refused}
 use Rattle.lta_spec.proofs.TestLaws.{pass}
@@ -144,7 +144,7 @@ module _ (sh : Shape) (t : ℕ) where
         none-yet sh t t u g (omega arith),
         rw (eq-eqb t t refl) at (tick-times t (u .cell) (g .sound .flat .losses) t),
       ) in
-      ap₂ _+_ own (tick-now (drop 2 samples) es us (a .1))
+      ap₂ _+_ own (tick-now (drop 3 samples) es us (a .1))
 
   -- and of the ticks before it as many as had
   pub tick-earlier : (i : ℕ) → i < t → (samples : List ℕ) (es : List E.Unit) (us : List R.Unit) → AllSame sh t es us
@@ -157,7 +157,7 @@ module _ (sh : Shape) (t : ℕ) where
       let own : timesIn i (six (M.tickCell t (u .cell))) ≡ timesIn i (six (u .cell)) =
       (rw (ne-eqb i t (omega arith)) at (tick-times t (u .cell) (a .0 .good .sound .flat .losses) i))
       ∙ nothing (M.hasRoom (u .cell)) in
-      ap₂ _+_ own (tick-earlier i h (drop 2 samples) es us (a .1))
+      ap₂ _+_ own (tick-earlier i h (drop 3 samples) es us (a .1))
     where
       nothing : {k : ℕ} (b : Bool) → k + cond b 0 0 ≡ k
       nothing true = omega arith
@@ -168,7 +168,7 @@ module _ (sh : Shape) (t : ℕ) where
   unfolding R.tickUnits
   tick-cell samples [] c d h = absurd (not-suc-le-zero h)
   tick-cell samples (u ∷ us) zero d h = refl
-  tick-cell samples (u ∷ us) (suc c) d h = tick-cell (drop 2 samples) us c d (le-of-suc-le-suc h)
+  tick-cell samples (u ∷ us) (suc c) d h = tick-cell (drop 3 samples) us c d (le-of-suc-le-suc h)
 
 -- one element set anew: what f says of an element stays, if it does of that one where it is meant
 kept-at : {A B : Type 0} (f : A → B) (us : List A) (d c : ℕ) (u d₀ : A) → (d ≡ c → f u ≡ f (getD us d d₀))
@@ -216,15 +216,17 @@ module _ (sh : Shape) (c : ℕ) where
         → 0 < wellFormed sh (onRun (tick samples)) → runLimit ≤ m .t
     unfolding R.verdict hostTests
     run-full samples why v h =
-        by-tests (eqb (length samples) (2 * sh .cells)) (eqb (m .t) runLimit) refl
+        by-tests (samplesOk (sh .cells) samples) (validityOk (sh .cells) samples) (eqb (m .t) runLimit) refl
         (rw (ok, eq-eqb (memoryWords sh) (memoryWords sh) refl) at v) h
       where
-        by-tests : (a b : Bool) → eqb (m .t) runLimit ≡ b
-            → cond a (cond (not b) Accepted (Refused RunFull)) (Refused WrongSamples) ≡ Refused why
-            → 0 < cond a 1 0 → runLimit ≤ m .t
-        by-tests true true e v h = omega (arith, eqb-true (m .t) runLimit e)
-        by-tests true false e v h = let z : _≡_ {A = ℕ} 0 1 = cc in absurd (omega arith)
-        by-tests false b e v h = absurd (not-suc-le-zero h)
+        by-tests : (a d b : Bool) → eqb (m .t) runLimit ≡ b
+            → cond a (cond d (cond (not b) Accepted (Refused RunFull)) (Refused BadValidity)) (Refused WrongSamples)
+            ≡ Refused why
+            → 0 < cond (a && d) 1 0 → runLimit ≤ m .t
+        by-tests true true true e v h = omega (arith, eqb-true (m .t) runLimit e)
+        by-tests true true false e v h = let z : _≡_ {A = ℕ} 0 1 = cc in absurd (omega arith)
+        by-tests true false b e v h = absurd (not-suc-le-zero h)
+        by-tests false d b e v h = absurd (not-suc-le-zero h)
 
     refused-keeps : (call : Call) (why : Refusal) → R.verdict sh m (memoryWords sh) call ≡ Refused why
         → Kept (onRun call) m (record { answer = refusal why; out = lentTo call; run = m })
@@ -261,8 +263,9 @@ module _ (sh : Shape) (c : ℕ) where
         → dumpTold c (onRun call) (told (R.accepted sh call m)) ≡ [] → Outcome (onRun call) m (R.accepted sh call m)
     unfolding R.accepted R.sends R.withDump R.withCell R.withFrame M.integrateCell M.integrateAt M.emptyBin
     accepted-does (tick samples) v none =
-        let a = pass (eqb (length samples) (2 * sh .cells)) _ _ v in
-        ticks (record { samples = samples; one = refl; run = refl; single = rw (a .0) (omega arith) })
+        let a = pass (samplesOk (sh .cells) samples) _ _ v in
+        let d = pass (validityOk (sh .cells) samples) _ _ (a .1) in
+        ticks (record { samples = samples; one = refl; run = refl; single = rw (a .0, d .0) (omega arith) })
     accepted-does (dump d command bank phase out) v none = dump-does d command bank phase out _ _ refl none
     accepted-does (integrate d) v none =
         keeps

@@ -9,6 +9,7 @@ use lib.ListN.{length, getD}
 use borrow.Author.Tests.{le-leb, lt-ltb, eq-eqb}
 use Rattle.lta_spec.specs.Shape.{openLimit, binLimit, runLimit}
 use Rattle.lta_spec.specs.Words.{every, overAll}
+use Rattle.lta_spec.specs.Tick.{Sample}
 use Rattle.lta_spec.specs.Place.{Stamped, Cell}
 use Rattle.lta_spec.specs.Row.{ticksOf, rowOk}
 use Rattle.lta_spec.specs.Machine as M
@@ -39,7 +40,7 @@ free-or-empty : (limit flag ticks : ℕ) → ticks ≤ limit * flag → leb 1 fl
 free-or-empty limit zero ticks h = eq-eqb ticks 0 (omega arith)
 free-or-empty limit (suc flag) ticks h = rw (le-leb 1 (suc flag) (omega arith))
 
-module _ (n B t : ℕ) (xs ys : List ℕ) (c : Cell Ticks) (s : Sound B t c) (few : overCell length c ≤ t)
+module _ (n B t : ℕ) (xs ys : List Sample) (c : Cell Ticks) (s : Sound B t c) (few : overCell length c ≤ t)
     (run : t ≤ runLimit)
   where
     abbrev e : Cell Row
@@ -108,7 +109,7 @@ module _ (n B t : ℕ) (xs ys : List ℕ) (c : Cell Ticks) (s : Sound B t c) (fe
     unfolding mapBin mapStamped
     bin-size k = rw (bin-carry n xs ys k c) (numbers-size n xs ys ((M.binAt k c) .content .members))
 
-    pub tick-intact : (k : E.Counter) (wx wy : List ℕ) → t < runLimit
+    pub tick-intact : (k : E.Counter) (wx wy : List Sample) → t < runLimit
         → D.tickSound n t (record { cell = e; counter = k; xs = window n wx; ys = window n wy }) ≡ true
     unfolding D.tickSound
     tick-intact k wx wy l =

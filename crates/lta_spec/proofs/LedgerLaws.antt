@@ -7,7 +7,7 @@ use native.Mathlib.Omega.{arith}
 use lib.ListN.{length-append}
 use Rattle.lta_spec.specs.Words.{joined}
 use Rattle.lta_spec.specs.Page.{added, countsSum}
-use Rattle.lta_spec.specs.Tick.{validAt, edgeLag, centreLag}
+use Rattle.lta_spec.specs.Tick.{Sample, validAt, edgeLag, centreLag}
 use Rattle.lta_spec.specs.Row.{rowCounts}
 use Rattle.lta_spec.specs.Machine.{Ticks}
 use Rattle.lta_spec.specs.Numbers.{upTo, countOver, validCount, setCounts}
@@ -36,7 +36,7 @@ counts-append [] b = counts-path (omega arith) (omega arith) (omega arith)
 counts-append (k ∷ a) b =
     ap (added k) (counts-append a b) ∙ counts-path (omega arith) (omega arith) (omega arith)
 
-module _ (n : ℕ) (xs ys : List ℕ) where
+module _ (n : ℕ) (xs ys : List Sample) where
   -- the numbers of the rows of sets
   pub counts-carry : (ls : List Ticks) → map rowCounts (map (numbers n xs ys) ls) ≡ map (setCounts n xs ys) ls
   unfolding setCounts

@@ -7,6 +7,8 @@ pub mod ShapeLaws
 pub mod ByteLaws
 pub mod FrameLaws
 pub mod RoundTrips
+pub mod Rewritten
+pub mod WrittenBefore
 pub mod Exact
 pub mod TickLaws
 pub mod RowLaws

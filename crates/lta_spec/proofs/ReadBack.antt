@@ -8,6 +8,7 @@ use lib.IntN.{pos}
 use lib.ListN.{getD}
 use Rattle.lta_spec.specs.Refusals.{decided}
 use Rattle.lta_spec.specs.Shape.{shapeOk, runLimit, binLimit}
+use Rattle.lta_spec.specs.Tick.{Sample}
 use Rattle.lta_spec.specs.Place.{Stamped}
 use Rattle.lta_spec.specs.Frame.{bodyOf, fieldsOf}
 use Rattle.lta_spec.specs.FrameCalls.{readVerdict, readAnswer}
@@ -32,7 +33,7 @@ use Rattle.lta_spec.proofs.SameCell.{Sent}
 use Rattle.lta_spec.proofs.SameRun.{set-frame}
 
 -- I and Q of a lag stand side by side among the lag pairs of a set
-sums-at : (n : ℕ) (xs ys : List ℕ) (s : Ticks) (m k j i : ℕ) → k + j ≡ i → j < m
+sums-at : (n : ℕ) (xs ys : List Sample) (s : Ticks) (m k j i : ℕ) → k + j ≡ i → j < m
     → (getD (lagSums n xs ys s m k) (2 * j) (pos 0) ≡ inPhaseSum n xs ys s i)
     × (getD (lagSums n xs ys s m k) (suc (2 * j)) (pos 0) ≡ quadratureSum n xs ys s i)
 sums-at n xs ys s zero k j i e h = absurd (omega arith)
@@ -57,7 +58,7 @@ fields-read Accepted f g e = ap (fieldsIn f) e
 fields-read (Refused r) f g e = let z : _≡_ {A = ℕ} 0 1 = cc in absurd (omega arith)
 
 module _ (sh : Shape) (ok : shapeOk sh ≡ true) (c : ℕ) (hc : c < sh .cells) (t : ℕ) (limit : t ≤ runLimit)
-    (xs ys : List ℕ) where
+    (xs ys : List Sample) where
   -- one frame
   set-back : (e : Emitted) → Sent (sh .bins) t e → ReadBack sh c xs ys (setFrame sh c xs ys e) e
   unfolding mapStamped emittedFields

@@ -1,5 +1,5 @@
--- What tests that passed give, and the round trips for both kinds and every N: a frame written and read back gives its
--- fields and its lags, and an accepted frame rewritten from what was read gives its bytes.
+-- What tests that passed give, and the first round trip for both kinds and every N: a frame written and read back gives
+-- its fields and its lags.
 use mathlib.Core.Path.{_≡_, refl, sym, ap, _∙_, subst}
 use mathlib.Core.Bool.{Bool, true, false, cond, _&&_, _||_}
 use mathlib.Core.List.{List, [], _∷_, _++_, map}
@@ -12,7 +12,7 @@ use lib.Seq.{drop-drop}
 use mir.Syntax.{w32}
 use mir.Val.{SFits}
 use borrow.Author.Tests.{leb-true, ltb-true, eqb-true, eq-eqb, ne-eqb, le-leb}
-use Rattle.lta_spec.specs.Words.{part, splice}
+use Rattle.lta_spec.specs.Words.{part}
 use Rattle.lta_spec.specs.Refusals.{test, firstOf, decided}
 use Rattle.lta_spec.specs.Shape.{lagCountOk, binLimit, peak}
 use Rattle.lta_spec.specs.Bytes.{wordRange, numberWord, signed}
@@ -30,6 +30,7 @@ use Rattle.lta_spec.specs.Frame.{
   lagNumbers,
   w0,
   w1,
+  headerWith,
   header,
   fieldsOf,
   fixedOk,
@@ -42,25 +43,20 @@ use Rattle.lta_spec.specs.Frame.{
 use Rattle.lta_spec.specs.FrameCalls.{marked, summed, ruled, kindBy, readTests, readVerdict, readAnswer}
 use Rattle.lta_spec.specs.FrameCalls.{lagSpan, writeVerdict, writeLeaves, normalVerdict}
 use Rattle.lta_spec.specs.declared.Fields.{Fields}
-use Rattle.lta_spec.specs.declared.Refusal.the-variants.{NoLag}
+use Rattle.lta_spec.specs.declared.Refusal.the-variants.{NoLag, WrongBias}
 use Rattle.lta_spec.specs.declared.Span.{Span}
 use Rattle.lta_spec.specs.declared.Verdict.{Verdict}
 use Rattle.lta_spec.specs.declared.Verdict.the-variants as verdict
 use Rattle.lta_spec.specs.Answer.Answer.{fields}
 use Rattle.lta_spec.specs.RoundTrip.{lagsRead}
-use Rattle.lta_spec.proofs.WordLaws.{length-part, part-splice-same}
+use Rattle.lta_spec.proofs.WordLaws.{part-splice-same}
 use Rattle.lta_spec.proofs.TestLaws.{and-both, and-le, pass, pass-both, first-append}
 use Rattle.lta_spec.proofs.ByteLaws.{
   Below,
-  below-drop,
-  below-part,
-  words-below,
-  length-words,
   words-part,
   AllFit,
   lags-below,
   signed-lags,
-  lags-signed,
 }
 use Rattle.lta_spec.proofs.FrameLaws.{
   sealed-is,
@@ -69,7 +65,6 @@ use Rattle.lta_spec.proofs.FrameLaws.{
   body-frame,
   lags-frame,
   summed-frame,
-  frame-again,
 }
 
 pub count-small : (n : ℕ) → lagCountOk n ≡ true → n ≤ 128
@@ -285,25 +280,31 @@ lags-fit f (z ∷ zs) v e =
     let q = and-both (within (peak * f .ticks) z) (lagsOk f zs) e in
     (fits-within f z v (q .0), lags-fit f zs v (q .1))
 
--- the words of a header
-pub length-header : (f : Fields) → length (header f) ≡ headWords (f .kind)
-unfolding header
-length-header f = omega (arith, by-test (eqb (f .kind) speedFrame))
+-- the words of a header, whatever its DATA_BIAS
+length-with : (bias : ℕ) (f : Fields) → length (headerWith bias f) ≡ headWords (f .kind)
+length-with bias f = omega (arith, by-test (eqb (f .kind) speedFrame))
   where
-    by-test : (b : Bool) → 7 + length (cond b (peak * f .ticks ∷ []) []) ≡ cond b 8 7
+    by-test : (b : Bool) → 7 + length (cond b (bias ∷ []) []) ≡ cond b 8 7
     by-test true = refl
     by-test false = refl
 
+below-with : (bias : ℕ) (f : Fields) → Valid f → bias < wordRange → Below wordRange (headerWith bias f)
+below-with bias f v small =
+    let k = kind-small (f .kind) (v .kind) in
+    let last = by-test (eqb (f .kind) speedFrame) in
+    (omega arith, (omega arith, (omega arith, (omega arith, (omega arith, (omega arith, (omega arith, last)))))))
+  where
+    by-test : (b : Bool) → Below wordRange (cond b (bias ∷ []) [])
+    by-test true = (small, tt)
+    by-test false = tt
+
+pub length-header : (f : Fields) → length (header f) ≡ headWords (f .kind)
+unfolding header
+length-header f = length-with (peak * f .ticks) f
+
 pub header-below : (f : Fields) → Valid f → Below wordRange (header f)
 unfolding header
-header-below f v =
-    let k = kind-small (f .kind) (v .kind) in
-    let bias = by-test (eqb (f .kind) speedFrame) in
-    (omega arith, (omega arith, (omega arith, (omega arith, (omega arith, (omega arith, (omega arith, bias)))))))
-  where
-    by-test : (b : Bool) → Below wordRange (cond b (peak * f .ticks ∷ []) [])
-    by-test true = (omega (arith, v .ticks), tt)
-    by-test false = tt
+header-below f v = below-with (peak * f .ticks) f v (omega (arith, v .ticks))
 
 -- the fields of a header's words are the fields
 w0-parts : (k c : ℕ) → k ≤ 3 → c ≤ 15 → let w = k + 2048 * c in (w % 8 ≡ k) × (w / 2048 % 16 ≡ c)
@@ -314,110 +315,124 @@ w1-parts : (k b n : ℕ) → k ≤ 255 → b ≤ 999 → n ≤ 1
     (w / 256 % 256 ≡ k) × (w / 65536 % 32768 ≡ b) × (w / 2147483648 ≡ n)
 w1-parts k b n hk hb hn = (omega arith, omega arith, omega arith)
 
-pub fields-header : (f : Fields) (rest : List ℕ) → Valid f → fieldsOf (header f ++ rest) ≡ f
-unfolding header fieldsOf
-fields-header f rest v =
+fields-with : (bias : ℕ) (f : Fields) (rest : List ℕ) → Valid f → fieldsOf (headerWith bias f ++ rest) ≡ f
+unfolding fieldsOf
+fields-with bias f rest v =
     let p = w0-parts (f .kind) (f .cell) (kind-small (f .kind) (v .kind)) (v .cell) in
     let q = w1-parts (f .block) (f .bin) (f .bank) (v .block) (v .bin) (v .bank) in
     rw (p .0, p .1, q .0, q .1, q .2)
 
-fixed-header : (f : Fields) (rest : List ℕ) → Valid f → fixedOk (header f ++ rest) ≡ true
-unfolding fixedOk header
-fixed-header f rest v =
-    rw (fields-header f rest v) (rw (eq-eqb (w0 f) (w0 f) refl, eq-eqb (w1 f) (w1 f) refl))
+fixed-with : (bias : ℕ) (f : Fields) (rest : List ℕ) → Valid f → fixedOk (headerWith bias f ++ rest) ≡ true
+unfolding fixedOk
+fixed-with bias f rest v =
+    rw (fields-with bias f rest v) (rw (eq-eqb (w0 f) (w0 f) refl, eq-eqb (w1 f) (w1 f) refl))
 
-bias-header : (f : Fields) (rest : List ℕ) → biasOk (f .kind) (header f ++ rest) ≡ true
-unfolding biasOk header
-bias-header f rest = by-test (eqb (f .kind) speedFrame)
+-- 18 looks at DATA_BIAS alone
+abbrev pub biasRight : (bias : ℕ) → Fields → Bool
+biasRight bias f = cond (eqb (f .kind) speedFrame) (eqb bias (peak * f .ticks)) true
+
+bias-with : (bias : ℕ) (f : Fields) (rest : List ℕ) → biasOk (f .kind) (headerWith bias f ++ rest) ≡ biasRight bias f
+unfolding biasOk
+bias-with bias f rest = by-test (eqb (f .kind) speedFrame)
   where
     by-test : (b : Bool)
-        → cond b (eqb (getD (cond b (peak * f .ticks ∷ []) [] ++ rest) 0 0) (peak * f .ticks)) true ≡ true
+        → cond b (eqb (getD (cond b (bias ∷ []) [] ++ rest) 0 0) (peak * f .ticks)) true
+        ≡ cond b (eqb bias (peak * f .ticks)) true
+    by-test true = refl
+    by-test false = refl
+
+right-header : (f : Fields) → biasRight (peak * f .ticks) f ≡ true
+right-header f = by-test (eqb (f .kind) speedFrame)
+  where
+    by-test : (b : Bool) → cond b (eqb (peak * f .ticks) (peak * f .ticks)) true ≡ true
     by-test true = eq-eqb (peak * f .ticks) (peak * f .ticks) refl
     by-test false = refl
 
--- and the header words of fields are the words that they were read from
-header-fields : (ws : List ℕ) → let k = (fieldsOf ws) .kind in
-    7 ≤ length ws → headWords k ≤ length ws → fixedOk ws ≡ true → biasOk k ws ≡ true
-    → header (fieldsOf ws) ≡ take (headWords k) ws
-unfolding header fixedOk fieldsOf biasOk
-header-fields [] h m e z = absurd (omega arith)
-header-fields (a ∷ []) h m e z = absurd (omega arith)
-header-fields (a ∷ b ∷ []) h m e z = absurd (omega arith)
-header-fields (a ∷ b ∷ t ∷ []) h m e z = absurd (omega arith)
-header-fields (a ∷ b ∷ t ∷ c ∷ []) h m e z = absurd (omega arith)
-header-fields (a ∷ b ∷ t ∷ c ∷ d ∷ []) h m e z = absurd (omega arith)
-header-fields (a ∷ b ∷ t ∷ c ∷ d ∷ s ∷ []) h m e z = absurd (omega arith)
-header-fields (a ∷ b ∷ t ∷ c ∷ d ∷ s ∷ o ∷ l) h m e z =
-    let f = fieldsOf (a ∷ b ∷ t ∷ c ∷ d ∷ s ∷ o ∷ l) in
-    let q = and-both (eqb a (w0 f)) (eqb b (w1 f)) e in
-    let first : a ≡ w0 f = eqb-true a (w0 f) (q .0) in
-    let next : b ≡ w1 f = eqb-true b (w1 f) (q .1) in
-    rw (← first, ← next) (by-test (eqb (a % 8) speedFrame) l (omega (arith, m)) z)
-  where
-    by-test : (x : Bool) (l : List ℕ) → cond x 8 7 ≤ 7 + length l → cond x (eqb (getD l 0 0) (peak * t)) true ≡ true
-        → a ∷ b ∷ t ∷ c ∷ d ∷ s ∷ o ∷ cond x (peak * t ∷ []) []
-        ≡ take (cond x 8 7) (a ∷ b ∷ t ∷ c ∷ d ∷ s ∷ o ∷ l)
-    by-test false l m z = refl
-    by-test true [] m z = absurd (omega arith)
-    by-test true (w ∷ l) m z =
-        ap (λ v. a ∷ b ∷ t ∷ c ∷ d ∷ s ∷ o ∷ v ∷ []) (sym (eqb-true w (peak * t) z))
-
--- what is written is read as what was written
-module _ (n : ℕ) (f : Fields) (zs : List ℤ) (room : ℕ) (ok : writeVerdict n f zs room ≡ verdict.Accepted) where
+-- a frame of what the writer accepts, whatever its DATA_BIAS: the reader is left with 18
+module _ (n : ℕ) (f : Fields) (zs : List ℤ) (room : ℕ) (ok : writeVerdict n f zs room ≡ verdict.Accepted) (bias : ℕ)
+    (small : bias < wordRange) where
   fine : Writes n f zs room
   fine = writes n f zs room ok
 
   sound : Valid f
   sound = valid f (fine .fields)
 
-  body-written : bodyOf (frameOf (header f) (lagWords zs))
-      ≡ header f ++ (lagWords zs ++ checksum (header f ++ lagWords zs) ∷ [])
-  body-written =
-      body-frame (header f) (lagWords zs) (header-below f sound) (lags-below zs) ∙ sealed-is (header f) (lagWords zs)
+  abbrev head : List ℕ
+  head = headerWith bias f
 
-  fields-written : fieldsOf (bodyOf (frameOf (header f) (lagWords zs))) ≡ f
-  fields-written = ap fieldsOf body-written ∙ fields-header f _ sound
+  abbrev frame : List ℕ
+  frame = frameOf head (lagWords zs)
 
-  pub length-written : length (frameOf (header f) (lagWords zs)) ≡ frameLength (f .kind) n
-  length-written =
-      omega (arith, length-frame (header f) (lagWords zs), length-header f, length-map zs numberWord, fine .length)
+  below : Below wordRange head
+  below = below-with bias f sound small
 
-  kind-written : kindBy n (frameOf (header f) (lagWords zs)) ≡ f .kind
-  kind-written = ap (lengthKind n) length-written ∙ length-kind n (f .kind) (sound .kind)
+  body-written : bodyOf frame ≡ head ++ (lagWords zs ++ checksum (head ++ lagWords zs) ∷ [])
+  body-written = body-frame head (lagWords zs) below (lags-below zs) ∙ sealed-is head (lagWords zs)
+
+  fields-written : fieldsOf (bodyOf frame) ≡ f
+  fields-written = ap fieldsOf body-written ∙ fields-with bias f _ sound
+
+  frame-length : length frame ≡ frameLength (f .kind) n
+  frame-length =
+      omega (arith, length-frame head (lagWords zs), length-with bias f, length-map zs numberWord, fine .length)
+
+  kind-written : kindBy n frame ≡ f .kind
+  kind-written = ap (lengthKind n) frame-length ∙ length-kind n (f .kind) (sound .kind)
 
   -- its lags
-  pub lags-written : lagNumbers (f .kind) n (bodyOf (frameOf (header f) (lagWords zs))) ≡ zs
+  lags-written : lagNumbers (f .kind) n (bodyOf frame) ≡ zs
   lags-written =
       ap (map signed)
-      (lags-frame (header f) (lagWords zs) (header-below f sound) (lags-below zs) (headWords (f .kind)) (2 * n)
-      (length-header f) (length-map zs numberWord ∙ fine .length))
+      (lags-frame head (lagWords zs) below (lags-below zs) (headWords (f .kind)) (2 * n) (length-with bias f)
+      (length-map zs numberWord ∙ fine .length))
       ∙ signed-lags zs (lags-fit f zs sound (fine .lags))
 
-  pub accepts-written : readVerdict n (frameOf (header f) (lagWords zs)) ≡ verdict.Accepted
+  pub verdict-written : readVerdict n frame
+      ≡ cond (biasRight bias f) verdict.Accepted (verdict.Refused WrongBias)
   unfolding readVerdict ruled
-  accepts-written =
+  verdict-written =
       rw (
         kind-written,
         fine .count,
-        eq-eqb _ (frameLength (f .kind) n) length-written,
-        marked-frame (header f) (lagWords zs),
-        summed-frame (header f) (lagWords zs) (header-below f sound) (lags-below zs) (headWords (f .kind) + 2 * n)
-            (omega (arith, length-header f, length-map zs numberWord, fine .length)),
+        eq-eqb _ (frameLength (f .kind) n) frame-length,
+        marked-frame head (lagWords zs),
+        summed-frame head (lagWords zs) below (lags-below zs) (headWords (f .kind) + 2 * n)
+            (omega (arith, length-with bias f, length-map zs numberWord, fine .length)),
         lags-written,
         fields-written,
-        ap fixedOk body-written ∙ fixed-header f _ sound,
+        ap fixedOk body-written ∙ fixed-with bias f _ sound,
         eq-eqb (f .kind) (f .kind) refl,
         fine .fields,
         fine .lags,
-        ap (biasOk (f .kind)) body-written ∙ bias-header f _,
+        ap (biasOk (f .kind)) body-written ∙ bias-with bias f _,
       )
+
+-- what is written is read as what was written
+module _ (n : ℕ) (f : Fields) (zs : List ℤ) (room : ℕ) (ok : writeVerdict n f zs room ≡ verdict.Accepted) where
+  abbrev bias : ℕ
+  bias = peak * f .ticks
+
+  bias-small : bias < wordRange
+  bias-small = omega (arith, valid f (writes n f zs room ok .fields) .ticks)
+
+  pub length-written : length (frameOf (header f) (lagWords zs)) ≡ frameLength (f .kind) n
+  unfolding header
+  length-written = frame-length n f zs room ok bias bias-small
+
+  pub accepts-written : readVerdict n (frameOf (header f) (lagWords zs)) ≡ verdict.Accepted
+  unfolding header
+  accepts-written = verdict-written n f zs room ok bias bias-small ∙ rw (right-header f)
 
   -- its fields, and the lags of its lag part
   pub read-written : readAnswer n (frameOf (header f) (lagWords zs)) ≡ fields f
-  read-written = rw (accepts-written, fields-written)
+  unfolding header
+  read-written = rw accepts-written (ap fields (fields-written n f zs room ok bias bias-small))
 
   pub lags-read : lagsRead n (frameOf (header f) (lagWords zs)) ≡ zs
-  lags-read = lag-part-read n (frameOf (header f) (lagWords zs)) accepts-written ∙ rw kind-written lags-written
+  unfolding header
+  lags-read =
+      lag-part-read n (frameOf (header f) (lagWords zs)) accepts-written
+      ∙ rw (kind-written n f zs room ok bias bias-small) (lags-written n f zs room ok bias bias-small)
 
 -- the same of the calls: the reader is given the first bytes of the buffer that the writer leaves
 module _
@@ -436,55 +451,3 @@ module _
 
     pub leaves-lags : lagsRead n (take (frameLength (f .kind) n) (writeLeaves n f zs out)) ≡ zs
     leaves-lags = rw leaves-frame (lags-read n f zs (length out) ok)
-
--- what is read is written as the bytes that were read
-module _ (n : ℕ) (s : List ℕ) (bytes : Below 256 s) (ok : readVerdict n s ≡ verdict.Accepted) where
-  -- its kind and header words
-  abbrev kind : ℕ
-  kind = (fieldsOf (bodyOf s)) .kind
-
-  abbrev h : ℕ
-  h = headWords kind
-
-  size : length s ≡ frameLength kind n
-  size = let a = accepted n s ok in rw (a .kind) (a .size)
-
-  body-length : length (bodyOf s) ≡ h + 2 * n + 1
-  body-length =
-      let d : length (drop 2 s) ≡ 4 * (h + 2 * n + 1) = simp length-drop (omega (arith, size)) in
-      omega (arith, length-words (drop 2 s))
-
-  words-again : lagWords (lagNumbers kind n (bodyOf s)) ≡ part h (2 * n) (bodyOf s)
-  words-again =
-      lags-signed _
-      (below-part wordRange h (2 * n) (bodyOf s) (words-below (drop 2 s) (below-drop 256 2 s bytes)))
-
-  pub frame-read : frameOf (header (fieldsOf (bodyOf s))) (lagWords (lagNumbers kind n (bodyOf s))) ≡ s
-  frame-read =
-      let a = accepted n s ok in
-      let sum : summed (h + 2 * n) (bodyOf s) ≡ true = rw (a .kind) (a .sum) in
-      rw (
-        words-again,
-        header-fields (bodyOf s) (omega (arith, body-length, head-least kind)) (omega (arith, body-length)) (a .fixed)
-            (rw (a .kind) (a .bias)),
-      )
-      (frame-again s h (2 * n) bytes (omega (arith, size)) (a .mark) sum)
-
-  pub accepts-read : (room : ℕ) → length s ≤ room
-      → writeVerdict n (fieldsOf (bodyOf s)) (lagNumbers kind n (bodyOf s)) room ≡ verdict.Accepted
-  accepts-read room least =
-      let a = accepted n s ok in
-      written n _ _ room
-      (record {
-        count = a .count;
-        fields = a .fields;
-        length =
-            length-map (part h (2 * n) (bodyOf s)) signed
-            ∙ length-part (bodyOf s) h (2 * n) (omega (arith, body-length));
-        lags = rw (a .kind) (a .lags);
-        fits = omega (arith, size);
-      })
-
-  pub leaves-again : (out : List ℕ) → length s ≤ length out
-      → writeLeaves n (fieldsOf (bodyOf s)) (lagNumbers kind n (bodyOf s)) out ≡ splice out 0 s
-  leaves-again out least = rw (accepts-read (length out) least, frame-read)

@@ -1,25 +1,26 @@
 -- The row of a set of ticks: of none, of a join, of one tick; its columns and its limits; and the shift registers.
 use Prim.Native.Nat.{ℕ, zero, suc, _+_, _*_, _-_, _/_, _≤_, _<_}
 use mathlib.Core.Path.{_≡_, refl, sym, ap, ap₂, _∙_}
-use mathlib.Core.Bool.{Bool, true, false, cond, _&&_}
+use mathlib.Core.Bool.{Bool, true, false, _&&_}
 use mathlib.Core.List.{List, [], _∷_, _++_, map}
 use native.Mathlib.Nat.{add-assoc}
 use native.Mathlib.Omega.{arith}
 use lib.IntN.{ℤ, pos, negsuc, natAbs}
 use lib.ListN.{length, getD, take, drop, length-append, length-replicate, List·getD-map}
 use lib.Seq.{take-take, drop-append-seam, getD-take, length-take-le}
-use borrow.Author.Tests.{le-leb, leb-true, lt-ltb, le-ltb}
+use borrow.Author.Tests.{le-leb, leb-true, le-ltb}
 use Rattle.lta_spec.specs.Shape.{peak}
 use Rattle.lta_spec.specs.Size.{rowWords, depth}
 use Rattle.lta_spec.specs.Words.{sums, zeros, every}
-use Rattle.lta_spec.specs.Tick.{Entry, fromByte, ago, xDelay, yDelay, lagX, lagY, inPhase, quadrature}
+use Rattle.lta_spec.specs.Tick.{Sample, Entry, fromSample, ago, xDelay, yDelay, lagX, lagY, inPhase, quadrature}
 use Rattle.lta_spec.specs.Tick.{validAt, inPhaseAt, quadratureAt, centreLag}
 use Rattle.lta_spec.specs.Row.{ticksOf, edgeOf, centreOf, emptyRow, biased, lagRow, tickRow, sumOk, rowOk}
-use Rattle.lta_spec.specs.Row.{entryWord, fromWord, entryOk}
+use Rattle.lta_spec.specs.Row.{fromWord, entryOk}
 use Rattle.lta_spec.specs.Machine.{Ticks}
 use Rattle.lta_spec.specs.Numbers.{upTo}
 use Rattle.lta_spec.proofs.TestLaws.{and-both, and-le, every-take}
-use Rattle.lta_spec.proofs.TickLaws.{Sampled, byte-sampled, inPhase-bound, quadrature-bound, entry-is}
+use Rattle.lta_spec.proofs.TickLaws.{Sampled, sample-small, inPhase-bound, quadrature-bound}
+use Rattle.lta_spec.proofs.TickLaws.{storedEntry, bit-small, entry-ok, entry-is}
 
 -- sums of rows
 pub sums-assoc : (a b c : List ℕ) → sums (sums a b) c ≡ sums a (sums b c)
@@ -80,12 +81,12 @@ length-tick n xs ys = omega (arith, length-lags n xs ys n 0)
 pub length-empty : (n : ℕ) → length (emptyRow n) ≡ rowWords n
 length-empty n = length-replicate (rowWords n) 0
 
--- the row of a set of ticks, under the bytes of the accepted ticks
-abbrev pub numbers : (n : ℕ) (xs ys : List ℕ) → Ticks → List ℕ
+-- the row of a set of ticks, under the samples of the accepted ticks
+abbrev pub numbers : (n : ℕ) (xs ys : List Sample) → Ticks → List ℕ
 numbers n xs ys [] = emptyRow n
 numbers n xs ys (i ∷ s) = sums (tickRow n (upTo xs i) (upTo ys i)) (numbers n xs ys s)
 
-module _ (n : ℕ) (xs ys : List ℕ) where
+module _ (n : ℕ) (xs ys : List Sample) where
   pub length-numbers : (s : Ticks) → length (numbers n xs ys s) ≡ rowWords n
   length-numbers [] = length-empty n
   length-numbers (i ∷ s) =
@@ -109,36 +110,42 @@ module _ (n : ℕ) (xs ys : List ℕ) where
       getD-sums (tickRow n (upTo xs i) (upTo ys i)) (numbers n xs ys s) 0 (tick-apart i s)
       ∙ omega (arith, numbers-size s)
 
--- what stood d ticks ago, in bytes and in a register
-pub ago-byte : (l : List ℕ) (d : ℕ) → ago (map fromByte l) d ≡ fromByte (getD l d 8)
-unfolding fromByte
-ago-byte l d = List·getD-map fromByte l d 8
+-- before tick 0 an invalid sample, whose entry is a cleared word
+abbrev unsampled : Sample
+unsampled = record { byte = 8; valid = false }
 
--- a register after the bytes: the newest entries, then cleared words
-abbrev pub window : (n : ℕ) (bytes : List ℕ) → List ℕ
-window n bytes = take (depth n) (map entryWord bytes ++ zeros (depth n))
+-- what stood d ticks ago, in samples and in a register
+ago-sample : (l : List Sample) (d : ℕ) → ago (map fromSample l) d ≡ fromSample (getD l d unsampled)
+unfolding fromSample
+ago-sample l d = List·getD-map fromSample l d unsampled
 
-entry-ago : (l : List ℕ) (m d : ℕ) → getD (map entryWord l ++ zeros m) d 0 ≡ entryWord (getD l d 8)
+-- a register after the samples: the newest entries, then cleared words
+abbrev pub window : (n : ℕ) (taken : List Sample) → List ℕ
+window n taken = take (depth n) (map storedEntry taken ++ zeros (depth n))
+
+entry-ago : (l : List Sample) (m d : ℕ) → getD (map storedEntry l ++ zeros m) d 0 ≡ storedEntry (getD l d unsampled)
 entry-ago [] m d = zero-at m d
 entry-ago (x ∷ l) m zero = refl
 entry-ago (x ∷ l) m (suc d) = entry-ago l m d
 
-pub ago-window : (n : ℕ) (l : List ℕ) (d : ℕ) → d < depth n → ago (map fromWord (window n l)) d ≡ ago (map fromByte l) d
+pub ago-window : (n : ℕ) (l : List Sample) (d : ℕ) → d < depth n
+    → ago (map fromWord (window n l)) d ≡ ago (map fromSample l) d
 unfolding fromWord
 ago-window n l d h =
     List·getD-map fromWord (window n l) d 0
-    ∙ ap fromWord (getD-take (depth n) (map entryWord l ++ zeros (depth n)) d 0 h ∙ entry-ago l (depth n) d)
-    ∙ entry-is (getD l d 8)
-    ∙ sym (ago-byte l d)
+    ∙ ap fromWord (getD-take (depth n) (map storedEntry l ++ zeros (depth n)) d 0 h ∙ entry-ago l (depth n) d)
+    ∙ entry-is (getD l d unsampled)
+    ∙ sym (ago-sample l d)
 
-pub window-shift : (n byte : ℕ) (l : List ℕ) → take (depth n) (entryWord byte ∷ window n l) ≡ window n (byte ∷ l)
-window-shift n byte l = by-depth (n / 2)
+pub window-shift : (n : ℕ) (s : Sample) (l : List Sample)
+    → take (depth n) (storedEntry s ∷ window n l) ≡ window n (s ∷ l)
+window-shift n s l = by-depth (n / 2)
   where
-    by-depth : (m : ℕ) → take (m + 1) (entryWord byte ∷ take (m + 1) (map entryWord l ++ zeros (m + 1)))
-        ≡ take (m + 1) (entryWord byte ∷ (map entryWord l ++ zeros (m + 1)))
+    by-depth : (m : ℕ) → take (m + 1) (storedEntry s ∷ take (m + 1) (map storedEntry l ++ zeros (m + 1)))
+        ≡ take (m + 1) (storedEntry s ∷ (map storedEntry l ++ zeros (m + 1)))
     by-depth m =
         let e : m + 1 ≡ suc m = omega arith in
-        rw e (ap (λ r. entryWord byte ∷ r) (take-take m (suc m) (map entryWord l ++ zeros (suc m)) (omega arith)))
+        rw e (ap (λ r. storedEntry s ∷ r) (take-take m (suc m) (map storedEntry l ++ zeros (suc m)) (omega arith)))
 
 -- two pasts that agree as far as the registers reach give one row
 module _ (n : ℕ) (xs ys xs′ ys′ : List Entry)
@@ -168,18 +175,18 @@ module _ (n : ℕ) (xs ys xs′ ys′ : List Entry)
       rw (x-same 0 (omega arith), y-same 0, x-same (n / 2) (omega arith), y-same (n / 2), lags-same n 0 (omega arith))
 
 -- one tick: the row of the newest, whatever comes later
-up-to : (g h : List ℕ) (b : ℕ) → upTo (g ++ b ∷ h) (length h) ≡ map fromByte (b ∷ h)
+up-to : (g h : List Sample) (s : Sample) → upTo (g ++ s ∷ h) (length h) ≡ map fromSample (s ∷ h)
 unfolding upTo
-up-to g h b =
-    let e : length (g ++ b ∷ h) - suc (length h) ≡ length g = omega (arith, length-append g (b ∷ h)) in
-    rw (e, drop-append-seam g (b ∷ h))
+up-to g h s =
+    let e : length (g ++ s ∷ h) - suc (length h) ≡ length g = omega (arith, length-append g (s ∷ h)) in
+    rw (e, drop-append-seam g (s ∷ h))
 
-pub numbers-one : (n : ℕ) (gx hx gy hy : List ℕ) (x y t : ℕ) → length hx ≡ t → length hy ≡ t
-    → numbers n (gx ++ x ∷ hx) (gy ++ y ∷ hy) (t ∷ []) ≡ tickRow n (map fromByte (x ∷ hx)) (map fromByte (y ∷ hy))
+pub numbers-one : (n : ℕ) (gx hx gy hy : List Sample) (x y : Sample) (t : ℕ) → length hx ≡ t → length hy ≡ t
+    → numbers n (gx ++ x ∷ hx) (gy ++ y ∷ hy) (t ∷ []) ≡ tickRow n (map fromSample (x ∷ hx)) (map fromSample (y ∷ hy))
 numbers-one n gx hx gy hy x y t p q =
-    let ex : upTo (gx ++ x ∷ hx) t ≡ map fromByte (x ∷ hx) = ap (upTo (gx ++ x ∷ hx)) (sym p) ∙ up-to gx hx x in
-    let ey : upTo (gy ++ y ∷ hy) t ≡ map fromByte (y ∷ hy) = ap (upTo (gy ++ y ∷ hy)) (sym q) ∙ up-to gy hy y in
-    rw (ex, ey) (sums-zeros (rowWords n) _ (length-tick n (map fromByte (x ∷ hx)) (map fromByte (y ∷ hy))))
+    let ex : upTo (gx ++ x ∷ hx) t ≡ map fromSample (x ∷ hx) = ap (upTo (gx ++ x ∷ hx)) (sym p) ∙ up-to gx hx x in
+    let ey : upTo (gy ++ y ∷ hy) t ≡ map fromSample (y ∷ hy) = ap (upTo (gy ++ y ∷ hy)) (sym q) ∙ up-to gy hy y in
+    rw (ex, ey) (sums-zeros (rowWords n) _ (length-tick n (map fromSample (x ∷ hx)) (map fromSample (y ∷ hy))))
 
 -- limits: what so many ticks can add up to
 pub record Limited (t : ℕ) (row : List ℕ) : Type 0 where
@@ -203,41 +210,37 @@ every-sums s t w e (x ∷ a) (y ∷ b) p q =
     (every-sums s t w e a b (u .1) (v .1))
 
 biased-limit : (z : ℤ) → natAbs z ≤ peak → sumOk 1 (biased z) ≡ true
-biased-limit z h = le-leb (biased z) 196 (omega (arith, by-sign z h))
+biased-limit z h = le-leb (biased z) (2 * peak * 1) (omega (arith, by-sign z h))
   where
-    by-sign : (z : ℤ) → natAbs z ≤ peak → biased z ≤ 196
+    by-sign : (z : ℤ) → natAbs z ≤ peak → biased z ≤ 2 * peak
     by-sign (pos n) h = omega arith
     by-sign (negsuc n) h = rw (le-ltb peak (suc n) h) (omega arith)
 
-pub sampled : (l : List ℕ) (d : ℕ) → Sampled (ago (map fromByte l) d)
-sampled l d = rw (ago-byte l d) (byte-sampled (getD l d 8))
+pub sampled : (l : List Sample) (d : ℕ) → Sampled (ago (map fromSample l) d)
+sampled l d = rw (ago-sample l d) (sample-small (getD l d unsampled))
 
-bit-limit : (b : Bool) → cond b 1 0 ≤ 1
-bit-limit true = omega arith
-bit-limit false = omega arith
-
-module _ (n : ℕ) (xs ys : List ℕ) where
-  lags-limited : (m k : ℕ) → every (sumOk 1) (lagRow n (map fromByte xs) (map fromByte ys) m k) ≡ true
+module _ (n : ℕ) (xs ys : List Sample) where
+  lags-limited : (m k : ℕ) → every (sumOk 1) (lagRow n (map fromSample xs) (map fromSample ys) m k) ≡ true
   unfolding inPhaseAt quadratureAt
   lags-limited zero k = refl
   lags-limited (suc m) k =
-      let x = lagX (map fromByte xs) k in
-      let y = lagY n (map fromByte ys) k in
+      let x = lagX (map fromSample xs) k in
+      let y = lagY n (map fromSample ys) k in
       let p = sampled xs (xDelay 0 k) in
       let q = sampled ys (yDelay n 0 k) in
       both (biased-limit (inPhase x y) (inPhase-bound x y p q))
       (both (biased-limit (quadrature x y) (quadrature-bound x y p q)) (lags-limited m (suc k)))
 
-  tick-limited : Limited 1 (tickRow n (map fromByte xs) (map fromByte ys))
+  tick-limited : Limited 1 (tickRow n (map fromSample xs) (map fromSample ys))
   unfolding tickRow
   tick-limited =
       record {
-        edge = bit-limit (validAt n (map fromByte xs) (map fromByte ys) 0);
-        centre = bit-limit (validAt n (map fromByte xs) (map fromByte ys) (centreLag n));
+        edge = omega (arith, bit-small (validAt n (map fromSample xs) (map fromSample ys) 0));
+        centre = omega (arith, bit-small (validAt n (map fromSample xs) (map fromSample ys) (centreLag n)));
         lags = lags-limited n 0;
       }
 
-numbers-limited : (n : ℕ) (xs ys : List ℕ) (s : Ticks) → Limited (length s) (numbers n xs ys s)
+numbers-limited : (n : ℕ) (xs ys : List Sample) (s : Ticks) → Limited (length s) (numbers n xs ys s)
 unfolding upTo
 numbers-limited n xs ys [] =
     record {
@@ -264,7 +267,7 @@ numbers-limited n xs ys (i ∷ s) =
           (u .lags);
     }
 
-pub row-ok : (n : ℕ) (xs ys : List ℕ) (s : Ticks) (limit : ℕ) → length s ≤ limit
+pub row-ok : (n : ℕ) (xs ys : List Sample) (s : Ticks) (limit : ℕ) → length s ≤ limit
     → rowOk limit (numbers n xs ys s) ≡ true
 unfolding rowOk
 row-ok n xs ys s limit h =
@@ -282,16 +285,16 @@ pub ticks-within : (limit : ℕ) (row : List ℕ) → rowOk limit row ≡ true �
 unfolding rowOk
 ticks-within limit row ok = and-le (ticksOf row) limit _ ok .0
 
--- every entry of a register is one that a byte gives
-pub window-ok : (n : ℕ) (l : List ℕ) → every entryOk (window n l) ≡ true
-window-ok n l = every-take entryOk (map entryWord l ++ zeros (depth n)) (depth n) (whole l (depth n))
+-- every entry of a register is one that a sample gives
+pub window-ok : (n : ℕ) (l : List Sample) → every entryOk (window n l) ≡ true
+window-ok n l = every-take entryOk (map storedEntry l ++ zeros (depth n)) (depth n) (whole l (depth n))
   where
-    whole : (l : List ℕ) (m : ℕ) → every entryOk (map entryWord l ++ zeros m) ≡ true
+    whole : (l : List Sample) (m : ℕ) → every entryOk (map storedEntry l ++ zeros m) ≡ true
     whole [] zero = refl
     whole [] (suc m) = whole [] m
-    whole (b ∷ l) m = both (lt-ltb (entryWord b) 256 (omega arith)) (whole l m)
+    whole (s ∷ l) m = both (entry-ok (s .byte) _ (bit-small (s .valid))) (whole l m)
 
-pub window-length : (n : ℕ) (l : List ℕ) → length (window n l) ≡ depth n
+pub window-length : (n : ℕ) (l : List Sample) → length (window n l) ≡ depth n
 window-length n l =
-    length-take-le (depth n) (map entryWord l ++ zeros (depth n))
-    (omega (arith, length-append (map entryWord l) (zeros (depth n)), length-replicate {A = ℕ} (depth n) 0))
+    length-take-le (depth n) (map storedEntry l ++ zeros (depth n))
+    (omega (arith, length-append (map storedEntry l) (zeros (depth n)), length-replicate {A = ℕ} (depth n) 0))

@@ -9,7 +9,7 @@ use lib.ListN.{length}
 use lib.Seq.{append-snoc}
 use borrow.Author.Tests.{eqb-false}
 use Rattle.lta_spec.specs.Words.{overAll}
-use Rattle.lta_spec.specs.Tick.{fromByte}
+use Rattle.lta_spec.specs.Tick.{Sample, fromSample}
 use Rattle.lta_spec.specs.Shape.{binLimit}
 use Rattle.lta_spec.specs.Place.{Label, Cell}
 use Rattle.lta_spec.specs.Frame.{accumulated, speedFrame, kindOk}
@@ -25,6 +25,7 @@ use Rattle.lta_spec.specs.Demand.{places, ticksBelow}
 use Rattle.lta_spec.specs.declared.Shape.{Shape}
 use Rattle.lta_spec.proofs.ShapeLaws.{index-below}
 use Rattle.lta_spec.proofs.LayoutLaws.{All}
+use Rattle.lta_spec.proofs.TickLaws.{storedEntry}
 use Rattle.lta_spec.proofs.RowLaws.{numbers-one, window, window-shift, ago-window, row-same}
 use Rattle.lta_spec.proofs.BlockLaws.{stored, CounterSound, counted-same, counted-sound}
 use Rattle.lta_spec.proofs.Carry.{row, mapCell, mapResult, tick-carry, dump-carry, send-carry, integrate-carry}
@@ -50,7 +51,7 @@ sent-later B t (e ∷ es) a =
     record { kind = s .kind; bank = s .bank; bin = s .bin; few = s .few; stamp = omega arith } in
     (later, sent-later B t es (a .1))
 
--- the machine's cell: as many bytes as ticks, sound, and each tick once in its places
+-- the machine's cell: as many samples as ticks, sound, and each tick once in its places
 pub record Good (sh : Shape) (t : ℕ) (m : R.Unit) : Type 0 where
   pub takenX : length (m .xs) ≡ t
   pub takenY : length (m .ys) ≡ t
@@ -60,9 +61,9 @@ pub record Good (sh : Shape) (t : ℕ) (m : R.Unit) : Type 0 where
   pub once : (f : ℕ → ℕ) → overAll (tally f) (places m) ≡ tally f (ticksBelow t)
   pub frames : All (Sent (sh .bins) t) (m .frames)
 
--- the engine's cell has, in each place, the row of the machine's set, whatever bytes come later
+-- the engine's cell has, in each place, the row of the machine's set, whatever samples come later
 pub record Same (sh : Shape) (t : ℕ) (e : E.Unit) (m : R.Unit) : Type 0 where
-  pub cell : (gx gy : List ℕ) → e .cell ≡ mapCell (row (sh .lags) (gx ++ m .xs) (gy ++ m .ys)) (m .cell)
+  pub cell : (gx gy : List Sample) → e .cell ≡ mapCell (row (sh .lags) (gx ++ m .xs) (gy ++ m .ys)) (m .cell)
   pub counter : e .counter ≡ stored (sh .start) (m .counter)
   pub xs : e .xs ≡ window (sh .lags) (m .xs)
   pub ys : e .ys ≡ window (sh .lags) (m .ys)
@@ -93,7 +94,7 @@ held-none B t c s f e =
     tally-none f (c .held .content .members) (omega arith)
 
 -- a tick
-module _ (sh : Shape) (t : ℕ) (wide : 2 ≤ sh .lags) (x y : ℕ) (e : E.Unit) (m : R.Unit) (s : Same sh t e m) where
+module _ (sh : Shape) (t : ℕ) (wide : 2 ≤ sh .lags) (x y : Sample) (e : E.Unit) (m : R.Unit) (s : Same sh t e m) where
   abbrev pub ticked : R.Unit
   ticked =
       record {
@@ -104,21 +105,21 @@ module _ (sh : Shape) (t : ℕ) (wide : 2 ≤ sh .lags) (x y : ℕ) (e : E.Unit)
         ys = y ∷ m .ys;
       }
 
-  new-xs : E.shifted (sh .lags) x (e .xs) ≡ window (sh .lags) (x ∷ m .xs)
+  new-xs : E.shifted (sh .lags) (storedEntry x) (e .xs) ≡ window (sh .lags) (x ∷ m .xs)
   new-xs = rw (s .xs) (window-shift (sh .lags) x (m .xs))
 
-  new-ys : E.shifted (sh .lags) y (e .ys) ≡ window (sh .lags) (y ∷ m .ys)
+  new-ys : E.shifted (sh .lags) (storedEntry y) (e .ys) ≡ window (sh .lags) (y ∷ m .ys)
   new-ys = rw (s .ys) (window-shift (sh .lags) y (m .ys))
 
-  new-row : tickRow (sh .lags) (map fromWord (E.shifted (sh .lags) x (e .xs)))
-      (map fromWord (E.shifted (sh .lags) y (e .ys)))
-      ≡ tickRow (sh .lags) (map fromByte (x ∷ m .xs)) (map fromByte (y ∷ m .ys))
+  new-row : tickRow (sh .lags) (map fromWord (E.shifted (sh .lags) (storedEntry x) (e .xs)))
+      (map fromWord (E.shifted (sh .lags) (storedEntry y) (e .ys)))
+      ≡ tickRow (sh .lags) (map fromSample (x ∷ m .xs)) (map fromSample (y ∷ m .ys))
   new-row =
       rw (new-xs, new-ys)
       (row-same (sh .lags) _ _ _ _ (λ d h. ago-window (sh .lags) (x ∷ m .xs) d h)
       (λ d h. ago-window (sh .lags) (y ∷ m .ys) d h) wide)
 
-  pub tick-same : Same sh (suc t) (E.tickUnit (sh .lags) x y e) ticked
+  pub tick-same : Same sh (suc t) (E.tickUnit (sh .lags) (storedEntry x) (storedEntry y) e) ticked
   unfolding E.tickUnit
   tick-same =
       record {
@@ -166,7 +167,7 @@ module _ (sh : Shape) (t : ℕ) (e : E.Unit) (m : R.Unit) (s : Same sh t e m) wh
   machineWith c k fs = record { cell = c; counter = k; frames = fs; xs = m .xs; ys = m .ys }
 
   change : (ec : Cell Row) (mc : Cell Ticks) (ek : E.Counter) (mk : M.Counter) (fs : List Emitted)
-      → ((gx gy : List ℕ) → ec ≡ mapCell (row n (gx ++ m .xs) (gy ++ m .ys)) mc)
+      → ((gx gy : List Sample) → ec ≡ mapCell (row n (gx ++ m .xs) (gy ++ m .ys)) mc)
       → ek ≡ stored (sh .start) mk
       → Sound B t mc
       → CounterSound (sh .start) (sh .blocks) mk

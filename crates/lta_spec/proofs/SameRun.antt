@@ -1,5 +1,5 @@
 -- The engine's run and the machine's, call by call: the same verdict, the same answer, and the relation kept.
-use Prim.Native.Nat.{ℕ, zero, suc, _+_, _*_, _-_, _≤_, _<_}
+use Prim.Native.Nat.{ℕ, zero, suc, _+_, _-_, _/_, _≤_, _<_}
 use mathlib.Core.Path.{_≡_, refl, ap, ap₂, _∙_}
 use mathlib.Core.Bool.{Bool, true, false, cond, not, _&&_}
 use mathlib.Core.List.{List, [], _∷_, _++_, map}
@@ -11,11 +11,12 @@ use borrow.Author.Tests.{ltb-true, eqb-false, le-leb, not-true}
 use Rattle.lta_spec.specs.Words.{splice, joined, every}
 use Rattle.lta_spec.specs.Refusals.{firstOf}
 use Rattle.lta_spec.specs.Shape.{runLimit}
+use Rattle.lta_spec.specs.Tick.{Sample}
 use Rattle.lta_spec.specs.Place.{Label, Stamped, Cell, lossCount}
-use Rattle.lta_spec.specs.Call.{Call, speed, commandOk, phaseOk, bankOk, binIndex}
+use Rattle.lta_spec.specs.Call.{Call, samplesOk, validityOk, speed, commandOk, phaseOk, bankOk, binIndex}
 use Rattle.lta_spec.specs.Call.Call.{tick, dump, integrate, emit, reading, forecast, page}
 use Rattle.lta_spec.specs.Answer.Answer.{number, entry}
-use Rattle.lta_spec.specs.Row.{rowSums, rowCounts}
+use Rattle.lta_spec.specs.Row.{rowSums, rowCounts, entryWord, xEntry, yEntry}
 use Rattle.lta_spec.specs.Page.{countsSum, pageOf}
 use Rattle.lta_spec.specs.Machine as M
 use Rattle.lta_spec.specs.Numbers.{Emitted, setFrame}
@@ -29,6 +30,7 @@ use Rattle.lta_spec.specs.declared.Refusal.{Refusal}
 use Rattle.lta_spec.specs.declared.Verdict.{Verdict}
 use Rattle.lta_spec.specs.declared.Verdict.the-variants.{Accepted, Refused}
 use Rattle.lta_spec.proofs.TestLaws.{and-both, pass}
+use Rattle.lta_spec.proofs.TickLaws.{storedEntry, bit-is}
 use Rattle.lta_spec.proofs.RowLaws.{numbers, numbers-size, window}
 use Rattle.lta_spec.proofs.SetLaws.{stored-edge, stored-centre, sums-read, lags-read}
 use Rattle.lta_spec.proofs.Carry.{row, mapStamped, mapBin, mapCell, room-carry, forecast-carry}
@@ -167,7 +169,7 @@ module _ (sh : Shape) (wide : 2 ≤ sh .lags) (t : ℕ) (es : List E.Unit) (ms :
     unfolding mapCell
     occupied-same = ap (λ z. z .held .occupied) cell-is
 
-    bin-is : (gx gy : List ℕ) (k : ℕ)
+    bin-is : (gx gy : List Sample) (k : ℕ)
         → E.binAt (sh .lags) k (S.cellAt sh c e)
         ≡ mapBin (row (sh .lags) (gx ++ u .xs) (gy ++ u .ys)) (M.binAt k (u .cell))
     bin-is gx gy k =
@@ -216,12 +218,14 @@ module _ (sh : Shape) (wide : 2 ≤ sh .lags) (t : ℕ) (es : List E.Unit) (ms :
       → firstOf (S.callTests sh call (record { t = t; units = es })) ≡ firstOf
       (R.callTests sh (record { t = t; units = ms }) call)
   verdict-same (tick samples) =
-      same-test (eqb (length samples) (2 * sh .cells)) _ _ _
+      same-test (samplesOk (sh .cells) samples) _ _ _
+      (λ _.
+      same-test (validityOk (sh .cells) samples) _ _ _
       (λ _.
       same-test (not (eqb t runLimit)) _ _ _
       (λ h.
       passing _ _ _
-      (both (le-leb t runLimit limit) (every-same sh t _ (unit-sound sh t (tick-verdict sh t limit h)) es ms units))))
+      (both (le-leb t runLimit limit) (every-same sh t _ (unit-sound sh t (tick-verdict sh t limit h)) es ms units)))))
   verdict-same (dump c command bank phase out) =
       same-test (ltb c (sh .cells)) _ _ _
       (λ h.
@@ -257,6 +261,13 @@ module _ (sh : Shape) (wide : 2 ≤ sh .lags) (t : ℕ) (es : List E.Unit) (ms :
   verdict-same (page out) =
       passing _ _ _ (both (le-leb t runLimit limit) (every-same sh t _ (ledger-sound sh t limit) es ms units))
 
+-- the entries of a tick's bytes are those of its samples
+x-entry : (samples : List ℕ) → xEntry samples ≡ storedEntry (R.xSample samples)
+x-entry samples = ap (entryWord (getD samples 0 0)) (bit-is (getD samples 2 0))
+
+y-entry : (samples : List ℕ) → yEntry samples ≡ storedEntry (R.ySample samples)
+y-entry samples = ap (entryWord (getD samples 1 0)) (bit-is (getD samples 2 0 / 2))
+
 -- a tick, all cells
 tick-units : (sh : Shape) → 2 ≤ sh .lags → (t : ℕ) (samples : List ℕ) (es : List E.Unit) (ms : List R.Unit)
     → AllSame sh t es ms
@@ -266,15 +277,15 @@ tick-units sh w t samples [] [] a = a
 tick-units sh w t samples [] (m ∷ ms) a = absurd a
 tick-units sh w t samples (e ∷ es) [] a = absurd a
 tick-units sh w t samples (e ∷ es) (m ∷ ms) a = (
-  tick-same sh t w (getD samples 0 0) (getD samples 1 0) e m (a .0),
-  tick-units sh w t (drop 2 samples) es ms
+  rw (x-entry samples, y-entry samples) (tick-same sh t w (R.xSample samples) (R.ySample samples) e m (a .0)),
+  tick-units sh w t (drop 3 samples) es ms
       (a .1),
 )
 
 tick-length : (t : ℕ) (samples : List ℕ) (ms : List R.Unit) → length (R.tickUnits t samples ms) ≡ length ms
 unfolding R.tickUnits
 tick-length t samples [] = refl
-tick-length t samples (m ∷ ms) = ap suc (tick-length t (drop 2 samples) ms)
+tick-length t samples (m ∷ ms) = ap suc (tick-length t (drop 3 samples) ms)
 
 held-off : (sh : Shape) (t : ℕ) (es : List E.Unit) (ms : List R.Unit) → AllSame sh t es ms
     → S.heldOff sh es ≡ R.heldOff ms
@@ -287,7 +298,7 @@ held-off sh t (e ∷ es) (m ∷ ms) a =
     rw (room, held-off sh t es ms (a .1))
 
 -- the frame of a set is that of its row
-pub set-frame : (sh : Shape) (c : ℕ) (xs ys : List ℕ) (e : Emitted)
+pub set-frame : (sh : Shape) (c : ℕ) (xs ys : List Sample) (e : Emitted)
     → S.rowFrame sh (e .kind) c (e .bank) (e .bin) (mapStamped (row (sh .lags) xs ys) (e .content))
     ≡ setFrame sh c xs ys e
 unfolding S.rowFrame setFrame mapStamped
@@ -332,7 +343,7 @@ module _ (sh : Shape) (wide : 2 ≤ sh .lags) (t : ℕ) (es : List E.Unit) (ms :
   abbrev pub Carried : (c : ℕ) → Stamped E.Row → Stamped M.Ticks → Type 0
   Carried c x y =
       let u = R.unitAt sh c (record { t = t; units = ms }) in
-      (gx gy : List ℕ) → x ≡ mapStamped (row (sh .lags) (gx ++ u .xs) (gy ++ u .ys)) y
+      (gx gy : List Sample) → x ≡ mapStamped (row (sh .lags) (gx ++ u .xs) (gy ++ u .ys)) y
 
   pub bin-carried : (c k : ℕ) → ltb c (sh .cells) ≡ true
       → Carried c ((E.binAt (sh .lags) k (S.cellAt sh c (record { t = t; units = es }))) .content)
@@ -347,7 +358,7 @@ module _ (sh : Shape) (wide : 2 ≤ sh .lags) (t : ℕ) (es : List E.Unit) (ms :
   open-carried c h gx gy = ap (λ z. z .opened) (same sh wide t es ms limit cells units c h .cell gx gy)
 
   -- so the bytes of its frame are the set's
-  pub frame-same : (c : ℕ) (e : Emitted) (x : Stamped E.Row) → Carried c x (e .content) → (gx gy : List ℕ)
+  pub frame-same : (c : ℕ) (e : Emitted) (x : Stamped E.Row) → Carried c x (e .content) → (gx gy : List Sample)
       → let u = R.unitAt sh c (record { t = t; units = ms }) in
       S.rowFrame sh (e .kind) c (e .bank) (e .bin) x ≡ setFrame sh c (gx ++ u .xs) (gy ++ u .ys) e
   frame-same c e x carried gx gy =
@@ -413,8 +424,9 @@ module _ (sh : Shape) (wide : 2 ≤ sh .lags) (t : ℕ) (es : List E.Unit) (ms :
       (R.accepted sh call (record { t = t; units = ms }))
   unfolding S.accepted R.accepted S.withDump R.withDump S.withCell R.withCell R.emitted
   accepted-same (tick samples) v =
-      let a = pass (eqb (length samples) (2 * sh .cells)) _ _ v in
-      let b = pass (not (eqb t runLimit)) _ _ (a .1) in
+      let a = pass (samplesOk (sh .cells) samples) _ _ v in
+      let v = pass (validityOk (sh .cells) samples) _ _ (a .1) in
+      let b = pass (not (eqb t runLimit)) _ _ (v .1) in
       record {
         answer = ap number (held-off sh t es ms units);
         out = refl;

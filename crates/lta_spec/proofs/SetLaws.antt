@@ -9,7 +9,7 @@ use lib.ListN.{length, getD, drop, drop-of-length-le}
 use lib.Seq.{drop-cons}
 use Rattle.lta_spec.specs.Shape.{peak}
 use Rattle.lta_spec.specs.Size.{rowWords}
-use Rattle.lta_spec.specs.Tick.{Entry, fromByte, lagX, lagY, xDelay, yDelay, inPhase, quadrature}
+use Rattle.lta_spec.specs.Tick.{Sample, Entry, fromSample, lagX, lagY, xDelay, yDelay, inPhase, quadrature}
 use Rattle.lta_spec.specs.Tick.{validAt, inPhaseAt, quadratureAt, edgeLag, centreLag}
 use Rattle.lta_spec.specs.Row.{ticksOf, edgeOf, centreOf, biased, unbiased, lagRow, tickRow, rowLags, rowSums}
 use Rattle.lta_spec.specs.Machine.{Ticks}
@@ -38,7 +38,7 @@ lag-words n xs ys (suc m) k (suc j) i e h =
     let d : 2 * suc j ≡ suc (suc (2 * j)) = omega arith in
     rw d (lag-words n xs ys m (suc k) j i (omega arith) (omega arith))
 
-module _ (n : ℕ) (xs ys : List ℕ) where
+module _ (n : ℕ) (xs ys : List Sample) where
   -- a column of a set's row whose words are biased numbers: their sum and the bias of each tick
   column : (f : ℕ → ℤ) (j : ℕ)
       → ((i : ℕ) → pos (getD (tickRow n (upTo xs i) (upTo ys i)) j 0) ≡ pos peak +ℤ f i)
@@ -63,11 +63,11 @@ module _ (n : ℕ) (xs ys : List ℕ) where
       let q : 4 + 2 * k ≡ suc (suc (suc (suc (2 * k)))) = omega arith in
       let px = drop (length xs - suc i) xs in
       let py = drop (length ys - suc i) ys in
-      let x = lagX (map fromByte px) k in
-      let y = lagY n (map fromByte py) k in
+      let x = lagX (map fromSample px) k in
+      let y = lagY n (map fromSample py) k in
       let sx = sampled px (xDelay 0 k) in
       let sy = sampled py (yDelay n 0 k) in
-      let w = lag-words n (map fromByte px) (map fromByte py) n 0 k k (omega arith) h in
+      let w = lag-words n (map fromSample px) (map fromSample py) n 0 k k (omega arith) h in
       rw (p, q) (
         ap pos (w .0) ∙ biased-is (inPhase x y) (inPhase-bound x y sx sy),
         ap pos (w .1) ∙ biased-is (quadrature x y) (quadrature-bound x y sx sy),

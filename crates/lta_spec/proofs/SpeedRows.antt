@@ -3,10 +3,11 @@ use mathlib.Core.Path.{_≡_, refl, _∙_}
 use Rattle.lta_spec.specs.Words.{part}
 use Rattle.lta_spec.specs.Shape.{lagCountOk, shapeOk}
 use Rattle.lta_spec.specs.Size.{memoryWords, hostTests}
-use Rattle.lta_spec.specs.Tick.{fromByte, product, weight, inPhase, quadrature, validAt, inPhaseAt, quadratureAt}
+use Rattle.lta_spec.specs.Tick.{fromSample, product, weight, inPhase, quadrature}
+use Rattle.lta_spec.specs.Tick.{validAt, inPhaseAt, quadratureAt}
 use Rattle.lta_spec.specs.Frame.{sealed, frameOf, header, lengthKind, fieldsOf, fixedOk, fieldsOk, biasOk}
 use Rattle.lta_spec.specs.FrameCalls.{marked, summed, ruled, normalVerdict}
-use Rattle.lta_spec.specs.Call.{commandOk, dumpFits, phaseOk, emittedFields}
+use Rattle.lta_spec.specs.Call.{validityOk, commandOk, dumpFits, phaseOk, emittedFields}
 use Rattle.lta_spec.specs.Machine as M
 use Rattle.lta_spec.specs.Numbers as N
 use Rattle.lta_spec.specs.MachineRun as R
@@ -19,8 +20,9 @@ use Rattle.lta_spec.proofs.Demand.{on-run, demand3}
 machine-returned : (machineReturns scriptShape (callsOf speedScript) (R.start scriptShape) ≡ returnedBy speedScript)
     × (machineReturns workedShape (callsOf speedRun) (R.start workedShape) ≡ returnedBy speedRun)
 unfolding
-    lagCountOk shapeOk memoryWords hostTests fromByte product weight inPhase quadrature validAt inPhaseAt
-    quadratureAt sealed frameOf header commandOk dumpFits phaseOk emittedFields M.lose M.hasRoom M.tickBy M.tickCell
+    lagCountOk shapeOk memoryWords hostTests fromSample product weight inPhase quadrature validAt inPhaseAt
+    quadratureAt sealed frameOf header validityOk commandOk dumpFits phaseOk emittedFields M.lose M.hasRoom M.tickBy
+    M.tickCell
     M.loseOpen M.holdOpen M.dumpBy M.dumpCell M.sendOpen M.countsAs M.returns M.oneOn M.counted M.release
     M.stateAfter M.stampAfter M.integrateBy M.binAt M.integrateAt M.integrateCell M.emptyBin N.upTo N.inPhaseSum
     N.quadratureSum N.validCount N.setFrame R.verdict R.tickUnits R.heldOff R.withDump R.withCell R.emitted R.speedSent

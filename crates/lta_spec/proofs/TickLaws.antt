@@ -1,4 +1,4 @@
--- One tick: the bounds of what it adds, and that the stored registers give what the bytes give.
+-- One tick: the bounds of what it adds, and that the stored registers give what the samples give.
 use Prim.Native.Nat.{ℕ, zero, suc, _+_, _*_, _-_, _/_, _%_, _≤_, _<_}
 use mathlib.Core.Path.{_≡_, refl, ap, _∙_}
 use mathlib.Core.Bool.{Bool, true, false, cond, not, _&&_}
@@ -8,11 +8,11 @@ use native.Mathlib.Omega.{arith}
 use lib.Dec.{T, leb, ltb, eqb, leb→le}
 use lib.IntN.{ℤ, pos, negsuc, negℤ, natAbs, _+ℤ_, _*ℤ_, pos-*ℤ-pos, pos-*ℤ-negsuc, negsuc-*ℤ-pos, negsuc-*ℤ-negsuc}
 use lib.ListN.{getD}
-use borrow.Author.Tests.{ltb-true, ltb-false, eqb-true, eqb-false, ne-eqb, le-ltb}
+use borrow.Author.Tests.{ltb-true, ltb-false, eqb-true, eqb-false, lt-ltb, le-ltb}
 use Rattle.lta_spec.specs.Shape.{peak}
-use Rattle.lta_spec.specs.Tick.{xDelay, yDelay}
-use Rattle.lta_spec.specs.Tick.{Entry, nibble, fromByte, product, weights, weight, inPhase, quadrature}
-use Rattle.lta_spec.specs.Row.{biased, entryWord, fromWord}
+use Rattle.lta_spec.specs.Tick.{xDelay, yDelay, bothValid}
+use Rattle.lta_spec.specs.Tick.{Sample, Entry, nibble, fromSample, product, weights, weight, inPhase, quadrature}
+use Rattle.lta_spec.specs.Row.{biased, entryWord, fromWord, entryOk}
 use Rattle.lta_spec.proofs.TestLaws.{and-left, and-right}
 
 -- the size of a product of whole numbers is the product of their sizes
@@ -40,36 +40,30 @@ pub weight-bound : (d : ℕ) → natAbs (weight d) ≤ 2
 unfolding weight
 weight-bound d = within-at 2 weights tt d
 
--- a valid sample is -7 to 7
+-- a sample is -8 to 7
 pub record Sampled (e : Entry) : Type 0 where
-  pub small : e .valid ≡ true → natAbs (e .sample) ≤ 7
+  pub small : natAbs (e .sample) ≤ 8
 
-nibble-small : (n : ℕ) → n < 16 → (n ≡ 8 → ⊥) → natAbs (nibble n) ≤ 7
-nibble-small n h other = by-test (ltb n 8) refl
+nibble-small : (n : ℕ) → n < 16 → natAbs (nibble n) ≤ 8
+nibble-small n h = by-test (ltb n 8) refl
   where
-    by-test : (q : Bool) → ltb n 8 ≡ q → natAbs (cond q (pos n) (negsuc (15 - n))) ≤ 7
+    by-test : (q : Bool) → ltb n 8 ≡ q → natAbs (cond q (pos n) (negsuc (15 - n))) ≤ 8
     by-test true e = omega (arith, ltb-true n 8 e)
     by-test false e = omega (arith, ltb-false n 8 e)
 
-pub byte-sampled : (b : ℕ) → Sampled (fromByte b)
-unfolding fromByte
-byte-sampled b = record { small = by-test (eqb (b % 16) 8) refl }
-  where
-    by-test : (q : Bool) → eqb (b % 16) 8 ≡ q → not q ≡ true → natAbs (nibble (b % 16)) ≤ 7
-    by-test true e v = absurd (let z : _≡_ {A = ℕ} 0 1 = cc in omega arith)
-    by-test false e v = nibble-small (b % 16) (omega arith) (eqb-false (b % 16) 8 e)
+pub sample-small : (s : Sample) → Sampled (fromSample s)
+unfolding fromSample
+sample-small s = record { small = nibble-small (s .byte % 16) (omega arith) }
 
-pub product-bound : (x y : Entry) → Sampled x → Sampled y → natAbs (product x y) ≤ 49
+product-bound : (x y : Entry) → Sampled x → Sampled y → natAbs (product x y) ≤ peak / 2
 unfolding product
-product-bound x y p q = by-tests (x .valid) (y .valid) refl refl
+product-bound x y p q = by-test (bothValid x y)
   where
-    by-tests : (a b : Bool) → x .valid ≡ a → y .valid ≡ b
-        → natAbs (cond (a && b) (x .sample *ℤ y .sample) (pos 0)) ≤ 49
-    by-tests true true e f = rw (size-mul (x .sample) (y .sample)) (mul-le-mul (p .small e) (q .small f))
-    by-tests true false e f = omega arith
-    by-tests false b e f = omega arith
+    by-test : (valid : Bool) → natAbs (cond valid (x .sample *ℤ y .sample) (pos 0)) ≤ peak / 2
+    by-test true = rw (size-mul (x .sample) (y .sample)) (mul-le-mul (p .small) (q .small))
+    by-test false = omega arith
 
--- what one tick adds to a sum is at most 98 in size
+-- what one tick adds to a sum is at most the peak in size
 weighted-bound : (x y : Entry) → Sampled x → Sampled y → (d : ℕ) → natAbs (product x y *ℤ weight d) ≤ peak
 weighted-bound x y p q d =
     rw (size-mul (product x y) (weight d)) (mul-le-mul (product-bound x y p q) (weight-bound d))
@@ -88,34 +82,54 @@ biased-is (pos n) h = refl
 biased-is (negsuc n) h =
     rw (le-ltb peak (suc n) h)
 
--- a stored entry gives what its byte gives
-pub low-digit : (c h : ℕ) → c < 16 → (c + 16 * h) % 16 ≡ c
-low-digit c h l = omega arith
+-- the parts of a stored entry: sample + 8, phase, validity
+pub low-digit : (c h v : ℕ) → c < 16 → (c + 16 * h + 256 * v) % 16 ≡ c
+low-digit c h v l = omega arith
 
-pub high-digit : (c h : ℕ) → c < 16 → h < 16 → (c + 16 * h) / 16 % 16 ≡ h
-high-digit c h l k = omega arith
+pub high-digit : (c h v : ℕ) → c < 16 → h < 16 → (c + 16 * h + 256 * v) / 16 % 16 ≡ h
+high-digit c h v l k = omega arith
+
+bit-digit : (c h v : ℕ) → c < 16 → h < 16 → v < 2 → (c + 16 * h + 256 * v) / 256 % 2 ≡ v
+bit-digit c h v l k m = omega arith
 
 pub twice-eight : (a : ℕ) → a < 16 → ((a + 8) % 16 + 8) % 16 ≡ a
 twice-eight a l = omega arith
 
-invalid-same : (a : ℕ) → a < 16 → not (eqb ((a + 8) % 16) 0) ≡ not (eqb a 8)
-invalid-same a l = by-test (eqb a 8) refl
-  where
-    by-test : (q : Bool) → eqb a 8 ≡ q → not (eqb ((a + 8) % 16) 0) ≡ not q
-    by-test true e = rw (eqb-true a 8 e)
-    by-test false e =
-        let other : (a ≡ 8) → ⊥ = eqb-false a 8 e in
-        rw (ne-eqb ((a + 8) % 16) 0 (λ z. omega arith))
+-- a sample as it is stored
+abbrev pub storedEntry : Sample → ℕ
+storedEntry s = entryWord (s .byte) (cond (s .valid) 1 0)
 
-pub entry-is : (b : ℕ) → fromWord (entryWord b) ≡ fromByte b
-unfolding fromWord fromByte
-entry-is b =
-    let c : (b % 16 + 8) % 16 < 16 = omega arith in
+pub bit-small : (valid : Bool) → cond valid 1 0 < 2
+bit-small true = omega arith
+bit-small false = omega arith
+
+pub bit-is : (v : ℕ) → v % 2 ≡ cond (eqb (v % 2) 1) 1 0
+bit-is v = by-test (eqb (v % 2) 1) refl
+  where
+    by-test : (q : Bool) → eqb (v % 2) 1 ≡ q → v % 2 ≡ cond q 1 0
+    by-test true e = eqb-true (v % 2) 1 e
+    by-test false e = let n : (v % 2 ≡ 1) → ⊥ = eqb-false (v % 2) 1 e in omega arith
+
+bit-back : (valid : Bool) → not (eqb (cond valid 1 0) 0) ≡ valid
+bit-back true = refl
+bit-back false = refl
+
+-- a stored entry is one that a register may have, and gives what its sample gives
+pub entry-ok : (byte bit : ℕ) → bit < 2 → entryOk (entryWord byte bit) ≡ true
+entry-ok byte bit h = lt-ltb (entryWord byte bit) 512 (omega arith)
+
+pub entry-is : (s : Sample) → fromWord (storedEntry s) ≡ fromSample s
+unfolding fromWord fromSample
+entry-is s =
+    let c : ℕ = (s .byte % 16 + 8) % 16 in
+    let h : ℕ = s .byte / 16 % 16 in
+    let v : ℕ = cond (s .valid) 1 0 in
     rw (
-      low-digit ((b % 16 + 8) % 16) (b / 16 % 16) c,
-      high-digit ((b % 16 + 8) % 16) (b / 16 % 16) c (omega arith),
-      twice-eight (b % 16) (omega arith),
-      invalid-same (b % 16) (omega arith),
+      low-digit c h v (omega arith),
+      high-digit c h v (omega arith) (omega arith),
+      bit-digit c h v (omega arith) (omega arith) (bit-small (s .valid)),
+      twice-eight (s .byte % 16) (omega arith),
+      bit-back (s .valid),
     )
 
 -- "so the relative delay is k - N/2 and lag N/2 is the centre": X at lag k is k - N/2 ticks older than Y

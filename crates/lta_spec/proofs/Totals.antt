@@ -11,7 +11,7 @@ use lib.IntN.{ℤ, pos, negsuc, negℤ, _+ℤ_, _-ℤ_, pos-+ℤ-pos, +ℤ-idr, 
 use borrow.Author.Tests.{eqb-true, eqb-false, ne-eqb}
 use Rattle.lta_spec.specs.Words.{overAll}
 use Rattle.lta_spec.specs.Machine.{Ticks}
-use Rattle.lta_spec.specs.Tick.{validAt, inPhaseAt, quadratureAt, edgeLag, centreLag}
+use Rattle.lta_spec.specs.Tick.{Sample, validAt, inPhaseAt, quadratureAt, edgeLag, centreLag}
 use Rattle.lta_spec.specs.Numbers.{upTo, sumOver, countOver, inPhaseSum, quadratureSum, validCount, setSums}
 use Rattle.lta_spec.specs.Demand.{isTick, overAllℤ, ticksBelow, AddUp}
 use Rattle.lta_spec.specs.declared.Sums.{Sums}
@@ -85,7 +85,7 @@ over-mapℤ f g [] = refl
 over-mapℤ f g (x ∷ l) = ap (λ r. f (g x) +ℤ r) (over-mapℤ f g l)
 
 -- the numbers of sets that have each tick once
-module _ (n : ℕ) (xs ys : List ℕ) (k : ℕ) (ls : List Ticks) (all : Ticks)
+module _ (n : ℕ) (xs ys : List Sample) (k : ℕ) (ls : List Ticks) (all : Ticks)
     (once : (g : ℕ → ℕ) → overAll (tally g) ls ≡ tally g all) where
   abbrev sumsOf : Ticks → Sums
   sumsOf s = setSums n xs ys s k

@@ -91,9 +91,14 @@ abbrev pub noTicks : Fields
 noTicks = emittedFields scriptShape accumulated 0 0 0 0 0 0 0
 
 pub record Orders : Type 0 where
-  -- "3 .. 4 .. Then 11": the run is full, and 256 is no entry of a register
-  pub sampler : returned (memWith runLimit 0 256) (tick (0 ∷ []) ∷ tick (0 ∷ 0 ∷ []) ∷ []) ≡ refusals (3 ∷ 4 ∷ [])
-  pub sampler-last : returned (memWith 0 0 256) (tick (0 ∷ []) ∷ tick (0 ∷ 0 ∷ []) ∷ []) ≡ refusals (3 ∷ 11 ∷ [])
+  -- "3 .. 4 .. Then 11", 19 "after 3 and before 4": the run is full, and 512 is no entry of a register
+  pub sampler : returned (memWith runLimit 0 512)
+      (tick (0 ∷ 0 ∷ []) ∷ tick (0 ∷ 0 ∷ 4 ∷ 0 ∷ []) ∷ tick (0 ∷ 0 ∷ 128 ∷ []) ∷ tick (0 ∷ 0 ∷ 3 ∷ []) ∷ [])
+      ≡ refusals (3 ∷ 3 ∷ 19 ∷ 4 ∷ [])
+  pub sampler-last : returned (memWith 0 0 512) (tick (0 ∷ 0 ∷ []) ∷ tick (0 ∷ 0 ∷ 4 ∷ []) ∷ tick (0 ∷ 0 ∷ 3 ∷ []) ∷ [])
+      ≡ refusals (3 ∷ 19 ∷ 11 ∷ [])
+  -- the last entry that a register may have
+  pub sampler-entry : returned (memWith 0 0 511) (tick (0 ∷ 0 ∷ 3 ∷ []) ∷ []) ≡ number 0 ∷ []
   -- "Order 5, 6, 7, 11, for every command": t is too high; then a flag of 2
   pub commander : returned (memWith (runLimit + 1) 0 0)
       (dump 1 5 2 0 [] ∷ dump 0 5 2 0 [] ∷ dump 0 2 2 0 [] ∷ dump 0 4 2 0 [] ∷ dump 0 7 2 0 [] ∷ [])
@@ -131,7 +136,7 @@ pub record Orders : Type 0 where
       ≡ number 0 ∷ number 0 ∷ number 0 ∷ number 0 ∷ refused 11 ∷ number 0 ∷ refused 11 ∷ refused 11 ∷ []
   -- no other call tests them
   pub counter-others : returned (memCounted (counterWith 1 4) 0 0 0)
-      (tick (0 ∷ 0 ∷ []) ∷ integrate 0 ∷ emit 0 0 0 [] ∷ forecast 0 ∷ [])
+      (tick (0 ∷ 0 ∷ 0 ∷ []) ∷ integrate 0 ∷ emit 0 0 0 [] ∷ forecast 0 ∷ [])
       ≡ number 0 ∷ refused 8 ∷ refused 9 ∷ number 524288 ∷ []
   -- "Order 5, 11, then 8"
   pub integrator : returned (memWith (runLimit + 1) 0 0) (integrate 1 ∷ integrate 0 ∷ []) ≡ refusals (5 ∷ 11 ∷ [])
@@ -145,7 +150,7 @@ pub record Orders : Type 0 where
       ≡ refusals (5 ∷ 12 ∷ 11 ∷ [])
   -- forecasts, "Refused by 1, 2, 5, 11": t is too high; a flag of 2 and no entry of a register, which they do not test
   pub forecaster : returned (memWith (runLimit + 1) 0 0) (forecast 1 ∷ forecast 0 ∷ []) ≡ refusals (5 ∷ 11 ∷ [])
-  pub forecaster-others : returned (memWith 0 2 256) (forecast 1 ∷ forecast 0 ∷ []) ≡ refused 5 ∷ number 524288 ∷ []
+  pub forecaster-others : returned (memWith 0 2 512) (forecast 1 ∷ forecast 0 ∷ []) ≡ refused 5 ∷ number 524288 ∷ []
   -- request 2026-02, "exactly 524,288 less the ticks in the open integration"; "ticks pass their limit", "a stamp
   -- passes t"
   pub forecaster-open : map (λ k. (step scriptShape (forecast 0) (memOpened k 7)) .answer)
@@ -155,7 +160,7 @@ pub record Orders : Type 0 where
   -- request 2026-03, "refused by 10 after 1, 2 and 11": t is too high; a flag of 2 and no entry of a register, which
   -- pages do not test
   pub pager : returned (memWith (runLimit + 1) 0 0) (page [] ∷ page (bytes 287) ∷ []) ≡ refusals (11 ∷ 11 ∷ [])
-  pub pager-others : returned (memWith 0 2 256) (page [] ∷ page (bytes 286) ∷ page (bytes 287) ∷ page (bytes 288) ∷ [])
+  pub pager-others : returned (memWith 0 2 512) (page [] ∷ page (bytes 286) ∷ page (bytes 287) ∷ page (bytes 288) ∷ [])
       ≡ refused 10 ∷ refused 10 ∷ number 287 ∷ number 287 ∷ []
   -- "every cell's losses": one alone; "and six that together pass 2,147,483,648 ticks", each within its own limit
   pub pager-losses : map (λ ticks. (step scriptShape (page (bytes 287)) (memLost ticks)) .answer)
@@ -174,17 +179,19 @@ pub record Orders : Type 0 where
   -- of the other length" or none, 18 "tested after 16"; 12 behind 18
   pub sender-kinds : map (readAnswer 2)
       (replicate 52 0
-      ∷ speedWords 3 98 100
-      ∷ speedWords 2 97 100
-      ∷ speedWords 4 97 102
+      ∷ speedWords 3 128 130
+      ∷ speedWords 2 127 130
+      ∷ speedWords 4 127 132
       ∷ shortWords 3 4
-      ∷ speedWords 3 97 101
-      ∷ speedWords 3 196 200
+      ∷ speedWords 3 127 131
+      ∷ speedWords 3 256 260
       ∷ [])
       ≡ refusals (13 ∷ 15 ∷ 16 ∷ 16 ∷ 16 ∷ 18 ∷ 18 ∷ [])
-  pub sender-takes : map (readAnswer 2) (speedWords 3 98 102 ∷ shortWords 2 3 ∷ [])
+  pub sender-takes : map (readAnswer 2) (speedWords 3 128 132 ∷ shortWords 2 3 ∷ [])
       ≡ fields (tickFields 3) ∷ fields (tickFields 2) ∷ []
-  pub normaliser-kinds : map (λ s. normalAnswer 2 s 2) (speedWords 3 97 101 ∷ speedWords 3 98 102 ∷ [])
+  -- request 2026-06, "A speed frame written before with any ticks in it": its DATA_BIAS is 98
+  pub sender-before : readAnswer 2 (speedWords 3 98 102) ≡ refused 18
+  pub normaliser-kinds : map (λ s. normalAnswer 2 s 2) (speedWords 3 98 102 ∷ speedWords 3 128 132 ∷ [])
       ≡ refusals (18 ∷ 12 ∷ [])
   -- "Writing fields: 1, 16, 10"
   pub writer : writeAnswer 3 noTicks [] 0

@@ -1,8 +1,9 @@
 -- The calls on a run, and the rules on their arguments.
-use Prim.Native.Nat.{ℕ, suc, _+_, _*_, _/_, _%_}
-use mathlib.Core.Bool.{Bool, not, _||_}
+use Prim.Native.Nat.{ℕ, zero, suc, _+_, _*_, _/_, _%_}
+use mathlib.Core.Bool.{Bool, true, not, _&&_, _||_}
 use mathlib.Core.List.{List, []}
 use lib.Dec.{leb, ltb, eqb}
+use lib.ListN.{length, getD, drop}
 use Rattle.lta_spec.specs.Frame.{speedFrame, frameLength}
 use Rattle.lta_spec.specs.declared.Shape.{Shape}
 use Rattle.lta_spec.specs.declared.Fields.{Fields}
@@ -26,6 +27,15 @@ lentTo (emit cell bank bin out) = out
 lentTo (reading cell lag loss) = []
 lentTo (forecast cell) = []
 lentTo (page out) = out
+
+-- what is not refused by 3, "not 2C bytes"; request 2026-06: "Refusal 3 tests for 3C bytes"
+abbrev pub samplesOk : (cells : ℕ) (samples : List ℕ) → Bool
+samplesOk cells samples = eqb (length samples) (3 * cells)
+
+-- what is not refused by 19, "when a validity byte has another bit set" than bits 0 and 1: the last byte of each cell
+unfoldable pub validityOk : (cells : ℕ) (samples : List ℕ) → Bool
+validityOk zero samples = true
+validityOk (suc c) samples = leb (getD samples 2 0) 3 && validityOk c (drop 3 samples)
 
 -- dump commands, three binary digits: 000, 001, 010, 011, 100, 111
 abbrev pub save : ℕ

@@ -10,7 +10,7 @@ use lib.ListN.{length, getD, take}
 use Rattle.lta_spec.specs.Words.{overAll}
 use Rattle.lta_spec.specs.Refusals.{firstOf}
 use Rattle.lta_spec.specs.Size.{memoryWords, hostTests}
-use Rattle.lta_spec.specs.Tick.{edgeLag, centreLag}
+use Rattle.lta_spec.specs.Tick.{Sample, edgeLag, centreLag}
 use Rattle.lta_spec.specs.Place.{Stamped, Cell}
 use Rattle.lta_spec.specs.Frame.{bodyOf, fieldsOf}
 use Rattle.lta_spec.specs.FrameCalls.{readAnswer}
@@ -116,7 +116,7 @@ AllKeep [] = Prim.Unit {0}
 AllKeep (c ∷ cs) = Keeps c × AllKeep cs
 
 -- "Demand 3 equates each place's numbers, in work memory by the builder's layout .., with its set's."
-pub record Equal (n : ℕ) (xs ys : List ℕ) (row : Row) (s : Ticks) : Type 0 where
+pub record Equal (n : ℕ) (xs ys : List Sample) (row : Row) (s : Ticks) : Type 0 where
   pub ticks : ticksOf row ≡ length s
   pub edge : edgeOf row ≡ validCount n xs ys s edgeLag
   pub centre : centreOf row ≡ validCount n xs ys s (centreLag n)
@@ -124,7 +124,7 @@ pub record Equal (n : ℕ) (xs ys : List ℕ) (row : Row) (s : Ticks) : Type 0 w
   pub quadrature : (k : ℕ) → k < n → unbiased (ticksOf row) (getD row (4 + 2 * k) 0) ≡ quadratureSum n xs ys s k
 
 -- a place with its stamp
-pub record EqualStamped (n : ℕ) (xs ys : List ℕ) (e : Stamped Row) (m : Stamped Ticks) : Type 0 where
+pub record EqualStamped (n : ℕ) (xs ys : List Sample) (e : Stamped Row) (m : Stamped Ticks) : Type 0 where
   pub numbers : Equal n xs ys (e .members) (m .members)
   pub stamp : e .stamp ≡ m .stamp
 
@@ -192,7 +192,7 @@ framesReturned c (l ∷ ls) (t ∷ ts) = framesReturned c ls ts ++ frameReturned
 
 -- The fields of the frame of a set, "The frame" again in numbers: W0 its kind and the cell, W1 Y block, data bin and
 -- bank, W2 to W4 ticks, centre and edge count, W5 the second and W6 the ticks of the stamp.
-abbrev pub sentFields : Shape → (c : ℕ) (xs ys : List ℕ) → Emitted → Fields
+abbrev pub sentFields : Shape → (c : ℕ) (xs ys : List Sample) → Emitted → Fields
 sentFields sh c xs ys e =
     record {
       kind = e .kind;
@@ -209,13 +209,13 @@ sentFields sh c xs ys e =
 
 -- A frame as its call left it, read back: the reader accepts it, its fields are the set's, and its lags are the signed
 -- sums themselves, with no wrap at 32 bits.
-pub record ReadBack (sh : Shape) (c : ℕ) (xs ys : List ℕ) (frame : List ℕ) (e : Emitted) : Type 0 where
+pub record ReadBack (sh : Shape) (c : ℕ) (xs ys : List Sample) (frame : List ℕ) (e : Emitted) : Type 0 where
   pub few : length (e .content .members) ≤ 16777215
   pub returned : readAnswer (sh .lags) frame ≡ fields (sentFields sh c xs ys e)
   pub lags : lagsRead (sh .lags) frame ≡ lagSums (sh .lags) xs ys (e .content .members) (sh .lags) 0
 
 -- frames and the machine's sets, one by one
-abbrev pub AllRead : Shape → (c : ℕ) (xs ys : List ℕ) → List (List ℕ) → List Emitted → Type 0
+abbrev pub AllRead : Shape → (c : ℕ) (xs ys : List Sample) → List (List ℕ) → List Emitted → Type 0
 AllRead sh c xs ys [] [] = Prim.Unit {0}
 AllRead sh c xs ys [] (e ∷ es) = ⊥
 AllRead sh c xs ys (f ∷ fs) [] = ⊥

@@ -11,7 +11,7 @@ use Rattle.lta_spec.specs.Words.{sums}
 use Rattle.lta_spec.specs.Refusals.{refusalNumber, lossNumber, test, firstOf}
 use Rattle.lta_spec.specs.Bytes.{bytesOf}
 use Rattle.lta_spec.specs.Frame.{mark, accumulated, frameLength}
-use Rattle.lta_spec.specs.Tick.{fromByte, xDelay, yDelay, weight, inPhase, quadrature}
+use Rattle.lta_spec.specs.Tick.{Entry, fromSample, xDelay, yDelay, weight, bothValid, inPhase, quadrature}
 use Rattle.lta_spec.specs.Place.{Label, Bin, Cell, free, filling}
 use Rattle.lta_spec.specs.Place.{ordered, overrun, full, replaced, tooWide, holdoff}
 use Rattle.lta_spec.specs.Call.{add, phaseOk, binIndex}
@@ -31,6 +31,7 @@ use Rattle.lta_spec.specs.WorkedRun.{answerOnly, minus, workedShape, wor
 use Rattle.lta_spec.specs.declared.Shape.{Shape}
 use Rattle.lta_spec.specs.declared.Refusal.{Refusal}
 use Rattle.lta_spec.specs.declared.Refusal.the-variants as no
+use Rattle.lta_spec.specs.declared.Verdict.{Verdict}
 use Rattle.lta_spec.specs.declared.Verdict.the-variants.{Accepted, Refused}
 use Rattle.lta_spec.specs.declared.Loss.{Loss}
 use Rattle.lta_spec.specs.declared.Loss.the-variants.{Ordered, Overrun, Full, Replaced, Wide, Holdoff}
@@ -44,12 +45,12 @@ abbrev pub scriptLent : List ℕ
 scriptLent = replicate 54 0
 
 -- "TK 02 03, TK 01 0F, TK 08 02 (hexadecimal), DP 0 2 0 0 0, IN 0, EM 0 0 0, IN 0", the DP without its last number by
--- request 2026-01
+-- request 2026-01, "with validity bytes 03, 03 and 02" by request 2026-06
 abbrev pub script : List Listed
 script =
-    onRun (tick (2 ∷ 3 ∷ []))
-    ∷ onRun (tick (1 ∷ 15 ∷ []))
-    ∷ onRun (tick (8 ∷ 2 ∷ []))
+    onRun (tick (2 ∷ 3 ∷ 3 ∷ []))
+    ∷ onRun (tick (1 ∷ 15 ∷ 3 ∷ []))
+    ∷ onRun (tick (8 ∷ 2 ∷ 2 ∷ []))
     ∷ onRun (dump 0 2 0 0 scriptLent)
     ∷ onRun (integrate 0)
     ∷ onRun (emit 0 0 0 scriptLent)
@@ -76,17 +77,32 @@ abbrev pub blockShape : (blocks bins : ℕ) → Shape
 blockShape blocks bins =
     record { cells = 1; lags = 2; bins = bins; blocks = blocks; start = 0; rate = 1; second = 0 }
 
--- what one tick adds at a lag where the bytes x and y meet
+-- what one tick adds at a lag where two entries meet
+abbrev pub Meet : (x y : Entry) (i q : ℤ) → Type 0
+Meet x y i q = (inPhase x y ≡ i) × (quadrature x y ≡ q)
+
+-- the entry of a byte with its validity bit, set or clear
+abbrev pub validByte : (byte : ℕ) → Entry
+validByte b = fromSample (record { byte = b; valid = true })
+
+abbrev pub invalidByte : (byte : ℕ) → Entry
+invalidByte b = fromSample (record { byte = b; valid = false })
+
+-- of two valid bytes
 abbrev pub Adds : (x y : ℕ) (i q : ℤ) → Type 0
-Adds x y i q = (inPhase (fromByte x) (fromByte y) ≡ i) × (quadrature (fromByte x) (fromByte y) ≡ q)
+Adds x y i q = Meet (validByte x) (validByte y) i q
 
 -- a run of the plain machine at tick number t; its cells do not matter to the tests of a tick
 abbrev pub beforeTick : (t : ℕ) → R.Run
 beforeTick t = record { t = t; units = [] }
 
--- the bytes of a tick of two cells
-abbrev pub fourBytes : List ℕ
-fourBytes = 0x12 ∷ 0x34 ∷ 0x56 ∷ 0x78 ∷ []
+-- the bytes of a tick of two cells, with these validity bytes
+abbrev pub sixBytes : (v w : ℕ) → List ℕ
+sixBytes v w = 0x12 ∷ 0x34 ∷ v ∷ 0x56 ∷ 0x78 ∷ w ∷ []
+
+-- what the sampler is told at tick number t
+abbrev pub told : (t v w : ℕ) → Verdict
+told t v w = firstOf (R.callTests workedShape (beforeTick t) (tick (sixBytes v w)))
 
 -- the refusals in the order of document 01's numbers
 abbrev pub allRefusals : List Refusal
@@ -94,6 +110,7 @@ allRefusals =
     no.BadShape ∷ no.WrongMemory ∷ no.WrongSamples ∷ no.RunFull ∷ no.NoCell ∷ no.BadCommand ∷ no.NoBin
     ∷ no.NothingHeld ∷ no.NotReady ∷ no.ShortBuffer ∷ no.Damaged ∷ no.NoLag
     ∷ no.WrongLength ∷ no.WrongMark ∷ no.WrongSum ∷ no.BadField ∷ no.BadRecord ∷ no.WrongBias
+    ∷ no.BadValidity
     ∷ []
 
 -- the six losses, and the place of a loss in a cell's list by its number
@@ -135,6 +152,16 @@ pub record Edges : Type 0 where
   -- X phase 0 and Y phase 15, d=1: weights 2 and 1; X phase 15 and Y phase 0, d=15: weights 2 and -1
   pub p3-one-ahead : Adds 0x03 0xFB (minus 30) (minus 15)
   pub p3-one-behind : Adds 0xF3 0x0B (minus 30) (pos 15)
+  -- request 2026-06, "uses -8 as a true sample": -8 × -8 at weights 2 and 1, at -2 and -1, and -8 × 7
+  pub least-by-least : Adds 0x18 0x08 (pos 128) (pos 64)
+  pub least-turned : Adds 0x98 0x08 (minus 128) (minus 64)
+  pub least-by-most : Adds 0x18 0x07 (minus 112) (minus 56)
+  -- a clear bit, whatever the four bits are: nothing is added, and the product is not valid
+  pub clear-x : Meet (invalidByte 0x15) (validByte 0x27) (pos 0) (pos 0)
+  pub clear-y : Meet (validByte 0x18) (invalidByte 0x28) (pos 0) (pos 0)
+  pub clear-counts : bothValid (invalidByte 0x15) (validByte 0x27) ∷ bothValid (validByte 0x18) (invalidByte 0x28) ∷ []
+      ≡ false ∷ false ∷ []
+  pub least-counts : bothValid (validByte 0x18) (validByte 0x28) ≡ true
   -- P4 M=16, B=1,000, phase 61 fits; P5 phase 62, offset 0, is refused though 992 < 1,000
   pub p4 : phaseOk (blockShape 16 1000) 61 ≡ true
   pub p5 : (phaseOk (blockShape 16 1000) 62 ≡ false) × (M.dataBin 0 16 62 0 ≡ 992)
@@ -146,11 +173,18 @@ pub record Edges : Type 0 where
   -- the bins of bank 0, then those of bank 1
   pub bin-order : binIndex 6 1 4 ≡ 10
   -- "4: t is 2,147,483,648"
-  pub last-tick : firstOf (R.callTests workedShape (beforeTick 2147483647) (tick fourBytes)) ≡ Accepted
-  pub run-full : firstOf (R.callTests workedShape (beforeTick 2147483648) (tick fourBytes)) ≡ Refused no.RunFull
-  -- "Who may be told no": 1 to 17, and 18 of request 2026-04
+  pub last-tick : told 2147483647 3 3 ≡ Accepted
+  pub run-full : told 2147483648 3 3 ≡ Refused no.RunFull
+  -- 19 "when a validity byte has another bit set, tested after 3 and before 4": bit 2, bit 7 alone, of either cell
+  pub validity : map (λ v. told 2147483648 v 0) (0 ∷ 1 ∷ 2 ∷ 3 ∷ []) ≡ replicate 4 (Refused no.RunFull)
+  pub other-bits : map (λ v. told 2147483648 v 3) (4 ∷ 7 ∷ 8 ∷ 16 ∷ 32 ∷ 64 ∷ 128 ∷ 255 ∷ [])
+      ≡ replicate 8 (Refused no.BadValidity)
+  pub next-cell : map (told 0 3) (3 ∷ 4 ∷ 128 ∷ []) ≡ Accepted ∷ Refused no.BadValidity ∷ Refused no.BadValidity ∷ []
+  pub samples-first : firstOf (R.callTests workedShape (beforeTick 0) (tick (1 ∷ 2 ∷ 128 ∷ 0 ∷ 0 ∷ [])))
+      ≡ Refused no.WrongSamples
+  -- "Who may be told no": 1 to 17, 18 of request 2026-04 and 19 of 2026-06
   pub refusal-numbers : map refusalNumber allRefusals
-      ≡ 1 ∷ 2 ∷ 3 ∷ 4 ∷ 5 ∷ 6 ∷ 7 ∷ 8 ∷ 9 ∷ 10 ∷ 11 ∷ 12 ∷ 13 ∷ 14 ∷ 15 ∷ 16 ∷ 17 ∷ 18 ∷ []
+      ≡ 1 ∷ 2 ∷ 3 ∷ 4 ∷ 5 ∷ 6 ∷ 7 ∷ 8 ∷ 9 ∷ 10 ∷ 11 ∷ 12 ∷ 13 ∷ 14 ∷ 15 ∷ 16 ∷ 17 ∷ 18 ∷ 19 ∷ []
   -- "Where several apply, the order stands after each group."
   pub first-applies : firstOf (test false no.NoCell ∷ test false no.BadCommand ∷ []) ≡ Refused no.NoCell
   -- "1 ordered, 2 overrun, 3 full, 4 replaced, 5 wide, 6 holdoff"
@@ -205,6 +239,6 @@ pub record Edges : Type 0 where
       → (E.integrateAt n k b c) .answer ≡ 5
   -- the worked frame at lag 2, "I and Q each divided by the centre count", 2
   pub normalised : normalAnswer 4 workedFrame 2
-      ≡ normal (record { re = quotient (minus 6) 2; im = quotient (pos 11) 2 })
+      ≡ normal (record { re = quotient (minus 97) 2; im = quotient (pos 1) 2 })
   -- P12 N=128 frame: 1,058 bytes
   pub p12 : frameLength accumulated 128 ≡ 1058

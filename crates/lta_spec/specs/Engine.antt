@@ -12,7 +12,7 @@ use Rattle.lta_spec.specs.Size.{depth}
 use Rattle.lta_spec.specs.Place.{Label, Stamped, Bin, Cell, Result, free, filling, ready, ordered, overrun, full}
 use Rattle.lta_spec.specs.Place.{replaced, tooWide, holdoff, lossCount}
 use Rattle.lta_spec.specs.Call.{save, add, last, speed, discard, idle, binIndex}
-use Rattle.lta_spec.specs.Row.{ticksOf, emptyRow, tickRow, entryWord, fromWord}
+use Rattle.lta_spec.specs.Row.{ticksOf, emptyRow, tickRow, fromWord}
 
 -- a row of words
 abbrev pub Row : Type 0
@@ -94,10 +94,10 @@ module _ (n : ℕ) where
       record { opened = c .opened; held = c .held; bins = c .bins; losses = lose n holdoff row (c .losses) }
 
   -- a shift register moves: a new entry, and the oldest falls out
-  abbrev pub shifted : (byte : ℕ) → List ℕ → List ℕ
-  shifted byte register = take (depth n) (entryWord byte ∷ register)
+  abbrev pub shifted : (entry : ℕ) → List ℕ → List ℕ
+  shifted entry register = take (depth n) (entry ∷ register)
 
-  -- "The shift registers move either way."
+  -- x and y are the entries that the tick brings. "The shift registers move either way."
   unfoldable pub tickUnit : (x y : ℕ) → Unit → Unit
   tickUnit x y u =
       let xs = shifted x (u .xs) in

@@ -1,6 +1,6 @@
 -- Request 2026-02, what a forecast means: one statement for every list of calls in front of it and every list behind
 -- it. proofs/Forecasts.antt proves it.
-use Prim.Native.Nat.{ℕ, zero, suc, _+_, _*_, _-_, _<_}
+use Prim.Native.Nat.{ℕ, zero, suc, _+_, _-_, _<_}
 use mathlib.Core.Path.{_≡_}
 use mathlib.Core.Bool.{true, cond, not, _&&_}
 use mathlib.Core.List.{List, [], _∷_, _++_, map}
@@ -9,7 +9,7 @@ use lib.ListN.{length, getD, take, drop}
 use Rattle.lta_spec.specs.Words.{overAll}
 use Rattle.lta_spec.specs.Shape.{shapeOk, runLimit}
 use Rattle.lta_spec.specs.Place.{holdoff}
-use Rattle.lta_spec.specs.Call.{idle}
+use Rattle.lta_spec.specs.Call.{samplesOk, validityOk, idle}
 use Rattle.lta_spec.specs.Call.Call.{tick, dump, integrate, emit, reading, forecast, page}
 use Rattle.lta_spec.specs.Answer.{numberIn}
 use Rattle.lta_spec.specs.Answer.Answer.{number}
@@ -42,9 +42,9 @@ ofTick none f (onOther shape call given) = none
 abbrev pub tickTold : Listed → Returned → List ℕ
 tickTold l t = ofTick [] (λ samples. numberIn (t .answer)) l
 
--- a tick that is not refused by 3, "not 2C bytes"
+-- a tick that is not refused by 3 or 19
 abbrev pub wellFormed : Shape → Listed → ℕ
-wellFormed sh l = ofTick 0 (λ samples. cond (eqb (length samples) (2 * sh .cells)) 1 0) l
+wellFormed sh l = ofTick 0 (λ samples. cond (samplesOk (sh .cells) samples && validityOk (sh .cells) samples) 1 0) l
 
 -- an accepted dump of cell c but 111: its answer
 abbrev pub dumpTold : (c : ℕ) → Listed → Returned → List ℕ

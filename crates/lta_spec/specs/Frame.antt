@@ -70,16 +70,20 @@ w0 f = f .kind + 2048 * f .cell
 abbrev pub w1 : Fields → ℕ
 w1 f = 256 * f .block + 65536 * f .bin + 2147483648 * f .bank
 
--- "a word DATA_BIAS, equal to 98 × ticks, stands between W6 and the lags"
-abbrev pub biasWords : (kind ticks : ℕ) → List ℕ
-biasWords kind ticks = cond (eqb kind speedFrame) (peak * ticks ∷ []) []
+-- "a word DATA_BIAS .. stands between W6 and the lags"
+abbrev pub biasWords : (kind bias : ℕ) → List ℕ
+biasWords kind bias = cond (eqb kind speedFrame) (bias ∷ []) []
 
 -- "W2 ticks; W3 centre count; W4 edge count", W5 the stamp's second, W6 its ticks within the second
 abbrev pub firstWords : Fields → List ℕ
 firstWords f = w0 f ∷ w1 f ∷ f .ticks ∷ f .centre ∷ f .edge ∷ f .second ∷ f .offset ∷ []
 
+abbrev pub headerWith : (bias : ℕ) → Fields → List ℕ
+headerWith bias f = firstWords f ++ biasWords (f .kind) bias
+
+-- DATA_BIAS is "equal to 98 × ticks", by request 2026-06 128 × ticks
 unfoldable pub header : Fields → List ℕ
-header f = firstWords f ++ biasWords (f .kind) (f .ticks)
+header f = headerWith (peak * f .ticks) f
 
 -- the fields of header words
 unfoldable pub fieldsOf : (body : List ℕ) → Fields
@@ -126,10 +130,10 @@ fieldsOk f =
 abbrev pub within : (limit : ℕ) → ℤ → Bool
 within limit z = leb (natAbs z) limit
 
--- 18: "when a speed frame's DATA_BIAS differs from 98 × ticks"
+-- 18: "when a speed frame's DATA_BIAS differs from 98 × ticks", by request 2026-06 from 128 × ticks
 unfoldable pub biasOk : (kind : ℕ) (body : List ℕ) → Bool
 biasOk kind ws = cond (eqb kind speedFrame) (eqb (getD ws 7 0) (peak * getD ws 2 0)) true
 
--- "a lag beyond 98 × ticks"
+-- "a lag beyond 98 × ticks", by request 2026-06 beyond 128 × ticks
 abbrev pub lagsOk : Fields → List ℤ → Bool
 lagsOk f zs = every (within (peak * f .ticks)) zs

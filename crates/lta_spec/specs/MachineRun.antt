@@ -1,6 +1,6 @@
 -- Document 01, "The plain machine", a run: its cells, the refusals, the calls. It is fed the arguments of setup and
 -- of each call, of work memory the length alone.
-use Prim.Native.Nat.{ℕ, suc, _+_, _*_, _-_}
+use Prim.Native.Nat.{ℕ, suc, _+_, _-_, _/_, _%_}
 use mathlib.Core.Bool.{Bool, true, false, cond, not, _&&_}
 use mathlib.Core.List.{List, [], _∷_, _++_, map}
 use lib.Dec.{leb, ltb, eqb}
@@ -12,7 +12,9 @@ use Rattle.lta_spec.specs.Size.{hostTests}
 use Rattle.lta_spec.specs.Place.{Label, Cell, ready, lossCount}
 use Rattle.lta_spec.specs.Page.{countsSum, pageOf, pageLength}
 use Rattle.lta_spec.specs.Frame.{accumulated, speedFrame, frameLength}
-use Rattle.lta_spec.specs.Call.{Call, lentTo, speed, commandOk, dumpFits, phaseOk, bankOk, binIndex}
+use Rattle.lta_spec.specs.Tick.{Sample}
+use Rattle.lta_spec.specs.Call.{Call, lentTo, samplesOk, validityOk, speed, commandOk, dumpFits, phaseOk, bankOk}
+use Rattle.lta_spec.specs.Call.{binIndex}
 use Rattle.lta_spec.specs.Call.Call.{tick, dump, integrate, emit, reading, forecast, page}
 use Rattle.lta_spec.specs.Answer.{Answer, refusal}
 use Rattle.lta_spec.specs.Answer.Answer.{number, entry}
@@ -22,17 +24,17 @@ use Rattle.lta_spec.specs.Numbers.{Emitted, setSums, setCounts, setFrame
 use Rattle.lta_spec.specs.declared.Shape.{Shape}
 use Rattle.lta_spec.specs.declared.Counts.{Counts}
 use Rattle.lta_spec.specs.declared.Refusal.the-variants.{WrongSamples, RunFull, NoCell, BadCommand, NoBin}
-use Rattle.lta_spec.specs.declared.Refusal.the-variants.{NothingHeld, NotReady, ShortBuffer, NoLag}
+use Rattle.lta_spec.specs.declared.Refusal.the-variants.{NothingHeld, NotReady, ShortBuffer, NoLag, BadValidity}
 use Rattle.lta_spec.specs.declared.Verdict.{Verdict}
 
--- One cell of a run: its places, its block counter, its emitted frames, newest first, and the X and Y bytes of the
--- accepted ticks, newest first, from which all numbers follow
+-- One cell of a run: its places, its block counter, its emitted frames, newest first, and what the accepted ticks
+-- brought of X and Y, newest first, from which all numbers follow
 pub record Unit : Type 0 where
   pub cell : Cell Ticks
   pub counter : Counter
   pub frames : List Emitted
-  pub xs : List ℕ
-  pub ys : List ℕ
+  pub xs : List Sample
+  pub ys : List Sample
 
 pub record Run : Type 0 where
   pub t : ℕ
@@ -54,7 +56,8 @@ unitAt sh c r = getD (r .units) c (freshUnit sh)
 module _ (sh : Shape) (r : Run) where
   abbrev pub callTests : Call → List Test
   callTests (tick samples) =
-      test (eqb (length samples) (2 * sh .cells)) WrongSamples
+      test (samplesOk (sh .cells) samples) WrongSamples
+      ∷ test (validityOk (sh .cells) samples) BadValidity
       ∷ test (not (eqb (r .t) runLimit)) RunFull
       ∷ []
   callTests (dump cell command bank phase out) =
@@ -89,7 +92,14 @@ pub record Step : Type 0 where
   pub out : List ℕ
   pub run : Run
 
--- Tick, all cells: "X byte and a Y byte for each cell in turn"
+-- "a validity byte with bit 0 for X and bit 1 for Y"
+abbrev pub xSample : (samples : List ℕ) → Sample
+xSample samples = record { byte = getD samples 0 0; valid = eqb (getD samples 2 0 % 2) 1 }
+
+abbrev pub ySample : (samples : List ℕ) → Sample
+ySample samples = record { byte = getD samples 1 0; valid = eqb (getD samples 2 0 / 2 % 2) 1 }
+
+-- Tick, all cells: "three bytes for each cell: X, Y, and a validity byte"
 unfoldable pub tickUnits : (t : ℕ) (samples : List ℕ) → List Unit → List Unit
 tickUnits t samples [] = []
 tickUnits t samples (u ∷ us) =
@@ -97,10 +107,10 @@ tickUnits t samples (u ∷ us) =
       cell = tickCell t (u .cell);
       counter = u .counter;
       frames = u .frames;
-      xs = getD samples 0 0 ∷ u .xs;
-      ys = getD samples 1 0 ∷ u .ys;
+      xs = xSample samples ∷ u .xs;
+      ys = ySample samples ∷ u .ys;
     }
-    ∷ tickUnits t (drop 2 samples) us
+    ∷ tickUnits t (drop 3 samples) us
 
 -- the cells held off
 unfoldable pub heldOff : List Unit → ℕ

@@ -5,7 +5,7 @@ use mathlib.Core.Bool.{Bool, cond}
 use mathlib.Core.List.{List, [], _∷_, map}
 use lib.IntN.{ℤ, pos, _+ℤ_}
 use lib.ListN.{length, drop}
-use Rattle.lta_spec.specs.Tick.{Entry, fromByte, validAt, inPhaseAt, quadratureAt, edgeLag, centreLag}
+use Rattle.lta_spec.specs.Tick.{Sample, Entry, fromSample, validAt, inPhaseAt, quadratureAt, edgeLag, centreLag}
 use Rattle.lta_spec.specs.Place.{Stamped}
 use Rattle.lta_spec.specs.Frame.{frameOf, lagWords, header}
 use Rattle.lta_spec.specs.Call.{emittedFields}
@@ -17,8 +17,8 @@ use Rattle.lta_spec.specs.declared.Counts.{Counts}
 
 -- "A set's numbers are its I and Q sums at each lag, its ticks, and its edge and centre counts, of ticks whose
 -- product at that lag is valid". The entries as they were just after tick i
-unfoldable pub upTo : (bytes : List ℕ) (i : ℕ) → List Entry
-upTo bytes i = map fromByte (drop (length bytes - suc i) bytes)
+unfoldable pub upTo : (taken : List Sample) (i : ℕ) → List Entry
+upTo taken i = map fromSample (drop (length taken - suc i) taken)
 
 abbrev pub sumOver : (ℕ → ℤ) → Ticks → ℤ
 sumOver f [] = pos 0
@@ -28,7 +28,7 @@ abbrev pub countOver : (ℕ → Bool) → Ticks → ℕ
 countOver f [] = 0
 countOver f (i ∷ s) = cond (f i) 1 0 + countOver f s
 
-module _ (n : ℕ) (xs ys : List ℕ) (s : Ticks) where
+module _ (n : ℕ) (xs ys : List Sample) (s : Ticks) where
   unfoldable pub inPhaseSum : (k : ℕ) → ℤ
   inPhaseSum k = sumOver (λ i. inPhaseAt n (upTo xs i) (upTo ys i) k) s
 
@@ -67,14 +67,14 @@ pub record Emitted : Type 0 where
   pub content : Stamped Ticks
 
 -- the fields and the bytes of the frame of a set: "The machine's frames .. carry its sets' numbers."
-abbrev pub setFields : Shape → (cell : ℕ) → (xs ys : List ℕ) → Emitted → Fields
+abbrev pub setFields : Shape → (cell : ℕ) → (xs ys : List Sample) → Emitted → Fields
 setFields sh cell xs ys e =
     let n = sh .lags in
     let s = e .content .members in
     emittedFields sh (e .kind) cell (e .bank) (e .bin) (e .content .stamp) (length s) (validCount n xs ys s edgeLag)
     (validCount n xs ys s (centreLag n))
 
-unfoldable pub setFrame : Shape → (cell : ℕ) → (xs ys : List ℕ) → Emitted → List ℕ
+unfoldable pub setFrame : Shape → (cell : ℕ) → (xs ys : List Sample) → Emitted → List ℕ
 setFrame sh cell xs ys e =
     frameOf (header (setFields sh cell xs ys e))
     (lagWords (lagSums (sh .lags) xs ys (e .content .members) (sh .lags) 0))

@@ -29,6 +29,7 @@ refusalNumber no.WrongSum = 15
 refusalNumber no.BadField = 16
 refusalNumber no.BadRecord = 17
 refusalNumber no.WrongBias = 18
+refusalNumber no.BadValidity = 19
 
 -- the number of a loss
 abbrev pub lossNumber : Loss → ℕ

@@ -1,16 +1,19 @@
--- The two round trips of a frame of either kind, for every N, that no bytes are accepted as both kinds, and the reading
--- of a frame that a run sent, as one statement about the calls. proofs/RoundTrips.antt and proofs/EmittedBack.antt
--- prove it.
-use Prim.Native.Nat.{ℕ, _≤_, _<_}
+-- The two round trips of a frame of either kind, for every N, that no bytes are accepted as both kinds, that speed
+-- frames of the limit before are refused, and the reading of a frame that a run sent, as one statement about the calls.
+-- proofs/EmittedBack.antt proves it, with RoundTrips, Rewritten and WrittenBefore beside it.
+use Prim.Native.Nat.{ℕ, _*_, _≤_, _<_}
 use mathlib.Core.Path.{_≡_}
+use mathlib.Core.Bool.{true}
 use mathlib.Core.List.{List, [], _++_, map}
 use lib.IntN.{ℤ}
 use lib.ListN.{length, getD, take, drop}
-use Rattle.lta_spec.specs.Words.{splice}
+use Rattle.lta_spec.specs.Words.{splice, every}
 use Rattle.lta_spec.specs.Bytes.{wordsOf, signed}
-use Rattle.lta_spec.specs.Answer.Answer.{fields}
+use Rattle.lta_spec.specs.Answer.Answer.{refused, fields}
+use Rattle.lta_spec.specs.Shape.{lagCountOk}
 use Rattle.lta_spec.specs.Place.{Stamped}
-use Rattle.lta_spec.specs.Frame.{accumulated, speedFrame, frameLength, bodyOf, fieldsOf, lagNumbers}
+use Rattle.lta_spec.specs.Frame.{accumulated, speedFrame, frameLength, frameOf, bodyOf, lagWords, lagNumbers}
+use Rattle.lta_spec.specs.Frame.{headerWith, fieldsOf, fieldsOk, within}
 use Rattle.lta_spec.specs.FrameCalls.{readVerdict, readAnswer, lagPart, writeVerdict, writeLeaves}
 use Rattle.lta_spec.specs.Call.{speed, binIndex, emittedFields}
 use Rattle.lta_spec.specs.Call.Call.{dump, emit}
@@ -62,6 +65,14 @@ pub record RowBack (sh : Shape) (kind c bank bin : ℕ) (b : Stamped Row) (frame
       (centreOf (b .members)))
   pub lags : lagsRead (sh .lags) frame ≡ rowLags (ticksOf (b .members)) (drop 3 (b .members))
 
+-- a speed frame as it was written before request 2026-06, with 98 where there is 128 now
+pub record WrittenBefore (n : ℕ) (f : Fields) (zs : List ℤ) : Type 0 where
+  pub count : lagCountOk n ≡ true
+  pub kind : f .kind ≡ speedFrame
+  pub fields : fieldsOk f ≡ true
+  pub length : length zs ≡ 2 * n
+  pub lags : every (within (98 * f .ticks)) zs ≡ true
+
 pub record RoundTrip : Type 0 where
   -- a frame written and read back gives its fields, and its lag part the lag numbers
   pub fields-back : (n : ℕ) (f : Fields) (zs : List ℤ) (out : List ℕ) → writeVerdict n f zs (length out) ≡ Accepted
@@ -75,6 +86,9 @@ pub record RoundTrip : Type 0 where
   -- no bytes are accepted as both kinds: an accepted frame with bytes behind it is no accepted frame
   pub one-kind : (n : ℕ) (s behind : List ℕ) → readVerdict n s ≡ Accepted → readVerdict n (s ++ behind) ≡ Accepted
       → behind ≡ []
+  -- "A speed frame written before with any ticks in it is then refused by 18."
+  pub written-before : (n : ℕ) (f : Fields) (zs : List ℤ) → WrittenBefore n f zs → 0 < f .ticks
+      → readAnswer n (frameOf (headerWith (98 * f .ticks) f) (lagWords zs)) ≡ refused 18
   -- an emission that is accepted, whatever work memory holds: what is read back is what stood in the bin
   pub emitted-back : (sh : Shape) (c bank bin : ℕ) (mem out : List ℕ)
       → S.verdict sh mem (emit c bank bin out) ≡ Accepted

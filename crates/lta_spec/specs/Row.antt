@@ -1,5 +1,5 @@
 -- A row of words: the numbers of a place as the engine keeps them. Ticks, edge count, centre count, then I and Q of
--- each lag, each sum biased: sum + 98 × ticks, as the memo's accumulators are (4.2.2.2.5, DATA_BIAS). A cleared row
+-- each lag, each sum biased: sum + 128 × ticks, as the memo's accumulators are (4.2.2.2.5, DATA_BIAS). A cleared row
 -- is the row of no tick.
 use Prim.Native.Nat.{ℕ, zero, suc, _+_, _*_, _/_, _%_}
 use mathlib.Core.Bool.{Bool, cond, not, _&&_}
@@ -27,7 +27,7 @@ centreOf row = getD row 2 0
 abbrev pub emptyRow : (n : ℕ) → List ℕ
 emptyRow n = zeros (rowWords n)
 
--- what one tick adds to a stored sum: 98 + z, never below 0
+-- what one tick adds to a stored sum: 128 + z, never below 0
 abbrev pub biased : ℤ → ℕ
 biased z = natAbs (pos peak +ℤ z)
 
@@ -65,7 +65,7 @@ rowSums k row =
 abbrev pub rowCounts : List ℕ → Counts
 rowCounts row = record { ticks = ticksOf row; edge = edgeOf row; centre = centreOf row }
 
--- 11: "a sum passes 98 × ticks in size", which is a stored sum above 196 × ticks
+-- 11: "a sum passes 98 × ticks in size", by request 2026-06 128 × ticks, which is a stored sum above 256 × ticks
 abbrev pub sumOk : (ticks stored : ℕ) → Bool
 sumOk ticks stored = leb stored (2 * peak * ticks)
 
@@ -77,14 +77,21 @@ rowOk limit row =
     && (leb (centreOf row) (ticksOf row)
     && every (sumOk (ticksOf row)) (drop 3 row)))
 
--- A stored shift register entry: sample + 8 and 16 × phase; an invalid one has 0 in the place of sample + 8. A
--- cleared word is invalid.
-abbrev pub entryWord : (byte : ℕ) → ℕ
-entryWord b = (b % 16 + 8) % 16 + 16 * (b / 16 % 16)
+-- A stored shift register entry: sample + 8, 16 × phase, and 256 × its validity bit. A cleared word is invalid.
+abbrev pub entryWord : (byte bit : ℕ) → ℕ
+entryWord b v = (b % 16 + 8) % 16 + 16 * (b / 16 % 16) + 256 * v
+
+-- the entries of a tick's bytes, from a cell's first on
+abbrev pub xEntry : (samples : List ℕ) → ℕ
+xEntry samples = entryWord (getD samples 0 0) (getD samples 2 0 % 2)
+
+abbrev pub yEntry : (samples : List ℕ) → ℕ
+yEntry samples = entryWord (getD samples 1 0) (getD samples 2 0 / 2 % 2)
 
 unfoldable pub fromWord : ℕ → Entry
-fromWord w = record { valid = not (eqb (w % 16) 0); sample = nibble ((w % 16 + 8) % 16); phase = w / 16 % 16 }
+fromWord w =
+    record { valid = not (eqb (w / 256 % 2) 0); sample = nibble ((w % 16 + 8) % 16); phase = w / 16 % 16 }
 
 -- 11: "a shift register entry is one that no sampler byte gives"
 abbrev pub entryOk : ℕ → Bool
-entryOk w = ltb w 256
+entryOk w = ltb w 512

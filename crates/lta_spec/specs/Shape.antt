@@ -43,6 +43,7 @@ openLimit = 524288
 abbrev pub binLimit : ℕ
 binLimit = 16777215
 
--- the most that one tick adds to a sum, in size: 7 × 7 × 2
+-- the most that one tick adds to a sum, in size: 8 × 8 × 2. Request 2026-06: "Every 98 in document 01 and in the speed
+-- frame becomes 128".
 abbrev pub peak : ℕ
-peak = 98
+peak = 128

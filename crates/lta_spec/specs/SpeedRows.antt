@@ -23,16 +23,16 @@ use Rattle.lta_spec.specs.declared.Shape.{Shape}
 abbrev pub lentLine : Call → Answer → (out : List ℕ) → CallLine
 lentLine call a out = record { call = call; returned = record { answer = a; out = out } }
 
--- "DP then prints the frame's words": 3 0 3 2 1 0 0, DATA_BIAS 294, then 6 0 10 0 and their sum 319
+-- "DP then prints the frame's words": 3 0 3 2 1 0 0, DATA_BIAS 384, then 6 0 10 0 and their sum 409
 abbrev pub scriptSpeed : List ℕ
-scriptSpeed = mark ++ bytesOf (3 ∷ 0 ∷ 3 ∷ 2 ∷ 1 ∷ 0 ∷ 0 ∷ 294 ∷ 6 ∷ 0 ∷ 10 ∷ 0 ∷ 319 ∷ [])
+scriptSpeed = mark ++ bytesOf (3 ∷ 0 ∷ 3 ∷ 2 ∷ 1 ∷ 0 ∷ 0 ∷ 384 ∷ 6 ∷ 0 ∷ 10 ∷ 0 ∷ 409 ∷ [])
 
 -- the script of document 01 with DP 0 3 0 0: nothing is held, and no bin is Ready
 abbrev pub speedScript : List CallLine
 speedScript =
-    line (tick (2 ∷ 3 ∷ [])) (number 0)
-    ∷ line (tick (1 ∷ 15 ∷ [])) (number 0)
-    ∷ line (tick (8 ∷ 2 ∷ [])) (number 0)
+    line (tick (2 ∷ 3 ∷ 3 ∷ [])) (number 0)
+    ∷ line (tick (1 ∷ 15 ∷ 3 ∷ [])) (number 0)
+    ∷ line (tick (8 ∷ 2 ∷ 2 ∷ [])) (number 0)
     ∷ lentLine (dump 0 3 0 0 scriptLent) (number 54) scriptSpeed
     ∷ line (integrate 0) (refused 8)
     ∷ lentLine (emit 0 0 0 scriptLent) (refused 9) scriptLent
@@ -60,18 +60,18 @@ threeTicks =
     ∷ 1
     ∷ 1001
     ∷ 2
-    -- DATA_BIAS, 98 × 3
-    ∷ 294
-    -- I and Q of lag 0, -40 and -20; of lag 1, -1 and -2; of lag 2, -6 and 11; of lag 3, 15 and 13
-    ∷ 0xFFFF_FFD8
-    ∷ 0xFFFF_FFEC
+    -- DATA_BIAS, 128 × 3
+    ∷ 384
+    -- I and Q of lag 0, 8 and 8; of lag 1, -1 and -2; of lag 2, -97 and 1; of lag 3, 5 and 13
+    ∷ 8
+    ∷ 8
     ∷ 0xFFFF_FFFF
     ∷ 0xFFFF_FFFE
-    ∷ 0xFFFF_FFFA
-    ∷ 11
-    ∷ 15
+    ∷ 0xFFFF_FF9F
+    ∷ 1
+    ∷ 5
     ∷ 13
-    ∷ 0x8004_21FC
+    ∷ 0x8004_2233
     ∷ [])
 
 -- of tick 8, with stamp 8: Y block 22, data bin 2, bank 0
@@ -79,8 +79,8 @@ abbrev pub oneTick : List ℕ
 oneTick =
     mark
     ++ bytesOf
-    (0x0000_0803 ∷ 0x0002_1600 ∷ 1 ∷ 1 ∷ 1 ∷ 1002 ∷ 2 ∷ 98
-    ∷ 0xFFFF_FFDC ∷ 0xFFFF_FFB8 ∷ 0xFFFF_FFE8 ∷ 48 ∷ 4 ∷ 8 ∷ 0 ∷ 0 ∷ 0x0002_220C
+    (0x0000_0803 ∷ 0x0002_1600 ∷ 1 ∷ 1 ∷ 1 ∷ 1002 ∷ 2 ∷ 128
+    ∷ 0xFFFF_FFDC ∷ 0xFFFF_FFB8 ∷ 0xFFFF_FFE8 ∷ 48 ∷ 4 ∷ 8 ∷ 0xFFFF_FFF8 ∷ 8 ∷ 0x0002_222A
     ∷ [])
 
 -- of no tick, with stamp 9: Y block 20, data bin 3, bank 1
@@ -93,28 +93,28 @@ heldFrame =
     mark
     ++ bytesOf
     (0x0000_0802 ∷ 0x8003_1400 ∷ 5 ∷ 2 ∷ 3 ∷ 1000 ∷ 0
-    ∷ 118 ∷ 0xFFFF_FFEB ∷ 0xFFFF_FF90 ∷ 0 ∷ 28 ∷ 56 ∷ 24 ∷ 0xFFFF_FFD0 ∷ 0x8003_2021
+    ∷ 118 ∷ 0xFFFF_FFEB ∷ 0xFFFF_FFC8 ∷ 0xFFFF_FF90 ∷ 0xFFFF_FFFC ∷ 4 ∷ 0 ∷ 0xFFFF_FFC0 ∷ 0x8003_1F6D
     ∷ [])
 
 abbrev pub speedRun : List CallLine
 speedRun =
-    line (tick (0x0A ∷ 0x63 ∷ 0x36 ∷ 0x79 ∷ [])) (number 0)
-    ∷ line (tick (0x96 ∷ 0xD4 ∷ 0x48 ∷ 0x64 ∷ [])) (number 0)
-    ∷ line (tick (0xA2 ∷ 0x84 ∷ 0x69 ∷ 0x04 ∷ [])) (number 0)
-    ∷ line (tick (0x85 ∷ 0xB6 ∷ 0x87 ∷ 0x68 ∷ [])) (number 0)
-    ∷ line (tick (0x36 ∷ 0xC8 ∷ 0x0F ∷ 0xAF ∷ [])) (number 0)
+    line (tick (0x0A ∷ 0x63 ∷ 3 ∷ 0x36 ∷ 0x79 ∷ 2 ∷ [])) (number 0)
+    ∷ line (tick (0x96 ∷ 0xD4 ∷ 3 ∷ 0x48 ∷ 0x64 ∷ 3 ∷ [])) (number 0)
+    ∷ line (tick (0xA2 ∷ 0x84 ∷ 1 ∷ 0x69 ∷ 0x04 ∷ 3 ∷ [])) (number 0)
+    ∷ line (tick (0x85 ∷ 0xB6 ∷ 3 ∷ 0x87 ∷ 0x68 ∷ 1 ∷ [])) (number 0)
+    ∷ line (tick (0x36 ∷ 0xC8 ∷ 3 ∷ 0x0F ∷ 0xAF ∷ 3 ∷ [])) (number 0)
     -- cell 1 holds ticks 0 to 4 for block 20, data bin 3; "Other commands leave that buffer alone"
     ∷ lentLine (dump 1 0 1 1 speedLent) (number 0) speedLent
-    ∷ line (tick (0x26 ∷ 0xFB ∷ 0x5F ∷ 0x0B ∷ [])) (number 0)
-    ∷ line (tick (0x48 ∷ 0xBD ∷ 0xC8 ∷ 0x4A ∷ [])) (number 0)
-    ∷ line (tick (0xDB ∷ 0x81 ∷ 0x14 ∷ 0x6F ∷ [])) (number 0)
+    ∷ line (tick (0x26 ∷ 0xFB ∷ 3 ∷ 0x5F ∷ 0x0B ∷ 1 ∷ [])) (number 0)
+    ∷ line (tick (0x48 ∷ 0xBD ∷ 3 ∷ 0xC8 ∷ 0x4A ∷ 3 ∷ [])) (number 0)
+    ∷ line (tick (0xDB ∷ 0x81 ∷ 2 ∷ 0x14 ∷ 0x6F ∷ 3 ∷ [])) (number 0)
     -- "10 applies to it last": nothing moves, the block neither
     ∷ lentLine (dump 1 3 1 1 speedShort) (refused 10) speedShort
     -- block 21; the byte behind the frame stays, and so does what is held
     ∷ lentLine (dump 1 3 1 1 speedLent) (number 70) (threeTicks ++ 9 ∷ [])
     ∷ line (integrate 1) (number 0)
     ∷ lentLine (dump 1 7 0 0 speedLent) (number 7) speedLent
-    ∷ line (tick (0x54 ∷ 0x6C ∷ 0x76 ∷ 0xD6 ∷ [])) (number 0)
+    ∷ line (tick (0x54 ∷ 0x6C ∷ 3 ∷ 0x76 ∷ 0xD6 ∷ 3 ∷ [])) (number 0)
     -- block 22, and with nothing open block 20
     ∷ lentLine (dump 1 3 0 0 speedLent) (number 70) (oneTick ++ 9 ∷ [])
     ∷ lentLine (dump 1 3 1 1 speedLent) (number 70) (noTick ++ 9 ∷ [])
@@ -136,6 +136,6 @@ pub record SpeedRows : Type 0 where
   pub run : Returns workedShape speedRun
   -- the lags of the speed frame, normalised: lag 2 by the centre count, 2
   pub normalised : normalAnswer 4 threeTicks 2
-      ≡ normal (record { re = quotient (minus 6) 2; im = quotient (pos 11) 2 })
+      ≡ normal (record { re = quotient (minus 97) 2; im = quotient (pos 1) 2 })
   -- "Its length is 38 + 8N": N=128, 1,062 bytes
   pub length : frameLength speedFrame 128 ≡ 1062

@@ -1,6 +1,6 @@
 -- What a call makes of work memory: the refusals in their order, then what is done. What the contracts of the calls
 -- cite.
-use Prim.Native.Nat.{ℕ, suc, _+_, _*_, _-_}
+use Prim.Native.Nat.{ℕ, suc, _+_, _-_}
 use mathlib.Core.Bool.{Bool, true, false, cond, not, _&&_}
 use mathlib.Core.List.{List, [], _∷_, _++_, map}
 use lib.Dec.{leb, ltb, eqb}
@@ -15,6 +15,8 @@ use Rattle.lta_spec.specs.Frame.{accumulated, speedFrame, frameLength, f
 use Rattle.lta_spec.specs.Call.{
   Call,
   lentTo,
+  samplesOk,
+  validityOk,
   speed,
   commandOk,
   dumpFits,
@@ -26,7 +28,7 @@ use Rattle.lta_spec.specs.Call.{
 use Rattle.lta_spec.specs.Call.Call.{tick, dump, integrate, emit, reading, forecast, page}
 use Rattle.lta_spec.specs.Answer.{Answer, refusal}
 use Rattle.lta_spec.specs.Answer.Answer.{number, entry}
-use Rattle.lta_spec.specs.Row.{ticksOf, edgeOf, centreOf, rowLags, rowSums, rowCounts}
+use Rattle.lta_spec.specs.Row.{ticksOf, edgeOf, centreOf, rowLags, rowSums, rowCounts, xEntry, yEntry}
 use Rattle.lta_spec.specs.Engine.{
   Row,
   Counter,
@@ -61,6 +63,7 @@ use Rattle.lta_spec.specs.declared.Refusal.the-variants.{
   ShortBuffer,
   Damaged,
   NoLag,
+  BadValidity,
 }
 use Rattle.lta_spec.specs.declared.Verdict.{Verdict}
 
@@ -108,7 +111,8 @@ module _ (sh : Shape) where
   -- each call's refusals behind 1 and 2, in document 01's order
   abbrev pub callTests : Call → Run → List Test
   callTests (tick samples) r =
-      test (eqb (length samples) (2 * sh .cells)) WrongSamples
+      test (samplesOk (sh .cells) samples) WrongSamples
+      ∷ test (validityOk (sh .cells) samples) BadValidity
       ∷ test (not (eqb (r .t) runLimit)) RunFull
       ∷ soundAt (unitsSound (r .t) (r .units)) r
       ∷ []
@@ -146,7 +150,7 @@ module _ (sh : Shape) where
   unfoldable pub tickUnits : (samples : List ℕ) → List Unit → List Unit
   tickUnits samples [] = []
   tickUnits samples (u ∷ us) =
-      tickUnit (sh .lags) (getD samples 0 0) (getD samples 1 0) u ∷ tickUnits (drop 2 samples) us
+      tickUnit (sh .lags) (xEntry samples) (yEntry samples) u ∷ tickUnits (drop 3 samples) us
 
   unfoldable pub heldOff : List Unit → ℕ
   heldOff [] = 0

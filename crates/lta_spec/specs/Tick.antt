@@ -1,10 +1,15 @@
 -- Document 01, "One tick": samples, phases, delays, products and weights.
 use Prim.Native.Nat.{ℕ, _+_, _-_, _/_, _%_}
-use mathlib.Core.Bool.{Bool, false, cond, not, _&&_}
+use mathlib.Core.Bool.{Bool, false, cond, _&&_}
 use mathlib.Core.List.{List, [], _∷_}
-use lib.Dec.{ltb, eqb}
+use lib.Dec.{ltb}
 use lib.IntN.{ℤ, pos, negsuc, _*ℤ_}
 use lib.ListN.{getD}
+
+-- what a tick brings of one aerial: its byte, and its bit of the validity byte
+pub record Sample : Type 0 where
+  pub byte : ℕ
+  pub valid : Bool
 
 -- a shift register entry: a sample, whether it is valid, and the phase that travels with it
 pub record Entry : Type 0 where
@@ -16,10 +21,10 @@ pub record Entry : Type 0 where
 abbrev pub nibble : ℕ → ℤ
 nibble n = cond (ltb n 8) (pos n) (negsuc (15 - n))
 
--- "Low four bits: sample, two's complement, -7 to 7; 8h marks it invalid (house). High four bits: phase, 0 to 15,
--- always present."
-unfoldable pub fromByte : ℕ → Entry
-fromByte b = record { valid = not (eqb (b % 16) 8); sample = nibble (b % 16); phase = b / 16 % 16 }
+-- "Low four bits: sample, two's complement"; request 2026-06: "Samples run from -8 to 7", and validity has a bit of its
+-- own. "High four bits: phase, 0 to 15, always present."
+unfoldable pub fromSample : Sample → Entry
+fromSample s = record { valid = s .valid; sample = nibble (s .byte % 16); phase = s .byte / 16 % 16 }
 
 -- "Before tick 0 everything is invalid"
 abbrev pub noSample : Entry

@@ -1,6 +1,6 @@
 -- A worked run beside P1, in which little is 0: two cells of four lags, S and Z above 0, M = 3, bank 1, a data bin
--- above M, phases that turn, invalid samples, losses 1 to 4, a loss page. What each call returns was computed from
--- documents 01 and 02, not from the definitions here.
+-- above M, phases that turn, invalid samples, samples of -8, losses 1 to 4, a loss page. What each call returns was
+-- computed from documents 01 and 02, not from the definitions here.
 use Prim.Native.Nat.{ℕ}
 use mathlib.Core.List.{List, [], _∷_, _++_, map}
 use lib.IntN.{ℤ, pos, negℤ}
@@ -61,17 +61,17 @@ workedFrame =
     -- W5: 1000 + 5 div 3; W6: 5 mod 3
     ∷ 1001
     ∷ 2
-    -- I and Q of lag 0, -40 and -20; of lag 1, -1 and -2; of lag 2, -6 and 11; of lag 3, 15 and 13
-    ∷ 0xFFFF_FFD8
-    ∷ 0xFFFF_FFEC
+    -- I and Q of lag 0, 8 and 8; of lag 1, -1 and -2; of lag 2, -97 and 1; of lag 3, 5 and 13
+    ∷ 8
+    ∷ 8
     ∷ 0xFFFF_FFFF
     ∷ 0xFFFF_FFFE
-    ∷ 0xFFFF_FFFA
-    ∷ 11
-    ∷ 15
+    ∷ 0xFFFF_FF9F
+    ∷ 1
+    ∷ 5
     ∷ 13
     -- "sum of all words before it, wrapping at 32 bits"
-    ∷ 0x8004_20D5
+    ∷ 0x8004_20B2
     ∷ [])
 
 -- the page at the end: of cell 0 ticks 0 to 2 in loss 1 and 5 to 7 in loss 2, of cell 1 tick 8 in loss 3 and 0 to 4 in
@@ -81,7 +81,7 @@ workedPage =
     joined
     (map ascii
     (" 0 1           3           1           2\n"
-    ∷ " 0 2           3           2           1\n"
+    ∷ " 0 2           3           2           3\n"
     ∷ " 0 3           0           0           0\n"
     ∷ " 0 4           0           0           0\n"
     ∷ " 0 5           0           0           0\n"
@@ -92,26 +92,26 @@ workedPage =
     ∷ " 1 4           5           3           2\n"
     ∷ " 1 5           0           0           0\n"
     ∷ " 1 6           0           0           0\n"
-    ∷ "** *          12           7           6\n"
+    ∷ "** *          12           7           8\n"
     ∷ []))
 
 -- a frame buffer with one byte more than a frame
 abbrev pub lent : List ℕ
 lent = replicate 67 9
 
--- a tick brings X and Y of cell 0, then of cell 1; a dump has cell, command, bank and phase; an emission has cell,
--- bank and data bin
+-- a tick brings X, Y and validity of cell 0, then of cell 1; a dump has cell, command, bank and phase; an emission has
+-- cell, bank and data bin
 abbrev pub workedRun : List CallLine
 workedRun =
     -- cell 1: its first dump uses block 20, Open is empty
     line (dump 1 4 1 1 []) (number 1)
-    ∷ line (tick (0x0A ∷ 0x63 ∷ 0x36 ∷ 0x79 ∷ [])) (number 0)
-    ∷ line (tick (0x96 ∷ 0xD4 ∷ 0x48 ∷ 0x64 ∷ [])) (number 0)
-    ∷ line (tick (0xA2 ∷ 0x84 ∷ 0x69 ∷ 0x04 ∷ [])) (number 0)
+    ∷ line (tick (0x0A ∷ 0x63 ∷ 3 ∷ 0x36 ∷ 0x79 ∷ 2 ∷ [])) (number 0)
+    ∷ line (tick (0x96 ∷ 0xD4 ∷ 3 ∷ 0x48 ∷ 0x64 ∷ 3 ∷ [])) (number 0)
+    ∷ line (tick (0xA2 ∷ 0x84 ∷ 1 ∷ 0x69 ∷ 0x04 ∷ 3 ∷ [])) (number 0)
     -- cell 0: 100, ticks 0 to 2 go to loss 1
     ∷ line (dump 0 4 0 0 []) (number 1)
-    ∷ line (tick (0x85 ∷ 0xB6 ∷ 0x87 ∷ 0x68 ∷ [])) (number 0)
-    ∷ line (tick (0x36 ∷ 0xC8 ∷ 0x0F ∷ 0xAF ∷ [])) (number 0)
+    ∷ line (tick (0x85 ∷ 0xB6 ∷ 3 ∷ 0x87 ∷ 0x68 ∷ 1 ∷ [])) (number 0)
+    ∷ line (tick (0x36 ∷ 0xC8 ∷ 3 ∷ 0x0F ∷ 0xAF ∷ 3 ∷ [])) (number 0)
     -- Open has two ticks in cell 0 and five in cell 1
     ∷ line (forecast 0) (number 524286)
     ∷ line (forecast 1) (number 524283)
@@ -122,16 +122,16 @@ workedRun =
     ∷ line (dump 1 1 1 1 []) (number 2)
     ∷ line (dump 1 1 1 1 []) (number 2)
     ∷ line (integrate 1) (number 0)
-    ∷ line (tick (0x26 ∷ 0xFB ∷ 0x5F ∷ 0x0B ∷ [])) (number 0)
+    ∷ line (tick (0x26 ∷ 0xFB ∷ 3 ∷ 0x5F ∷ 0x0B ∷ 1 ∷ [])) (number 0)
     -- 111 does nothing: Open's stamp stays 5, and the block 20
     ∷ line (dump 1 7 0 0 []) (number 7)
-    ∷ line (tick (0x48 ∷ 0xBD ∷ 0xC8 ∷ 0x4A ∷ [])) (number 0)
+    ∷ line (tick (0x48 ∷ 0xBD ∷ 3 ∷ 0xC8 ∷ 0x4A ∷ 3 ∷ [])) (number 0)
     -- cell 1, block 21: ticks 5 and 6 replace ticks 0 to 4, which go to loss 4; an overrun by 010 behind 000 returns to
     -- block 20
     ∷ line (dump 1 0 1 1 []) (number 0)
     ∷ line (dump 1 2 1 1 []) (number 2)
     ∷ line (integrate 1) (number 4)
-    ∷ line (tick (0xDB ∷ 0x81 ∷ 0x14 ∷ 0x6F ∷ [])) (number 0)
+    ∷ line (tick (0xDB ∷ 0x81 ∷ 2 ∷ 0x14 ∷ 0x6F ∷ 3 ∷ [])) (number 0)
     -- cell 0: Held is occupied, and ticks 5 to 7 go to loss 2; cell 1: 010 behind 010 moves on to block 21, tick 7
     -- joins, and the bin is Ready
     ∷ line (dump 0 2 0 0 []) (number 2)
@@ -139,13 +139,13 @@ workedRun =
     ∷ line (dump 1 1 1 1 []) (number 2)
     ∷ line (dump 1 0 1 1 []) (number 2)
     ∷ line (integrate 1) (number 0)
-    ∷ line (tick (0x54 ∷ 0x6C ∷ 0x76 ∷ 0xD6 ∷ [])) (number 0)
+    ∷ line (tick (0x54 ∷ 0x6C ∷ 3 ∷ 0x76 ∷ 0xD6 ∷ 3 ∷ [])) (number 0)
     -- cell 1, block 21 again: tick 8 goes to loss 3
     ∷ line (dump 1 1 1 1 []) (number 0)
     ∷ line (integrate 1) (number 3)
     -- a reading has cell, lag and loss number
     ∷ line (reading 0 2 1) (sumsRead (pos 18) (minus 30) 3 1 2)
-    ∷ line (reading 0 3 2) (sumsRead (pos 36) (minus 78) 3 2 1)
+    ∷ line (reading 0 3 2) (sumsRead (pos 36) (pos 2) 3 2 3)
     ∷ line (reading 1 1 3) (sumsRead (minus 24) (pos 48) 1 1 1)
     ∷ line (reading 1 0 4) (sumsRead (pos 118) (minus 21) 5 3 2)
     -- data bin 4 of bank 0 is Free

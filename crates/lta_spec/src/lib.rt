@@ -18,7 +18,7 @@ pub struct Shape {
     pub second: u64,
 }
 
-// Who may be told no: a name for each number of documents 01 and 02, in the order 1 to 18.
+// Who may be told no: a name for each number of documents 01 and 02, in the order 1 to 19.
 pub enum Refusal {
     BadShape,
     WrongMemory,
@@ -38,6 +38,7 @@ pub enum Refusal {
     BadField,
     BadRecord,
     WrongBias,
+    BadValidity,
 }
 
 // What the ordered tests of a call say.
@@ -141,8 +142,8 @@ pub const ACCUMULATED: u32 = 2;
 
 pub const SPEED_FRAME: u32 = 3;
 
-// The most that one tick adds to a sum, in size: 7 × 7 × 2.
-pub const PEAK: u32 = 98;
+// The most that one tick adds to a sum, in size: 8 × 8 × 2.
+pub const PEAK: u32 = 128;
 
 // The two bytes that stand before every frame.
 pub const MARK: [u8; 2] = [0x4c, 0x54];

@@ -19,12 +19,12 @@ use Rattle.script.specs.Run.{listed}
 use Rattle.script.specs.Text.{linesOf, scriptLines, scriptText}
 
 -- "TK 02 03, TK 01 0F, TK 08 02 (hexadecimal), DP 0 2 0 0 0, IN 0, EM 0 0 0, IN 0", the DP without its last byte and
--- with this command
+-- with this command, "with validity bytes 03, 03 and 02"
 abbrev pub exampleBy : (command : ℕ) → List ℕ
 exampleBy command =
-    (code "T" ∷ code "K" ∷ 2 ∷ 3 ∷ [])
-    ++ (code "T" ∷ code "K" ∷ 1 ∷ 15 ∷ [])
-    ++ (code "T" ∷ code "K" ∷ 8 ∷ 2 ∷ [])
+    (code "T" ∷ code "K" ∷ 2 ∷ 3 ∷ 3 ∷ [])
+    ++ (code "T" ∷ code "K" ∷ 1 ∷ 15 ∷ 3 ∷ [])
+    ++ (code "T" ∷ code "K" ∷ 8 ∷ 2 ∷ 2 ∷ [])
     ++ (code "D" ∷ code "P" ∷ 0 ∷ command ∷ 0 ∷ 0 ∷ 0 ∷ [])
     ++ (code "I" ∷ code "N" ∷ 0 ∷ [])
     ++ (code "E" ∷ code "M" ∷ 0 ∷ 0 ∷ 0 ∷ 0 ∷ [])
@@ -76,7 +76,7 @@ speedText =
     ascii "TK 0 0\n"
     ++ ascii "TK 0 0\n"
     ++ ascii "TK 0 0\n"
-    ++ ascii "DP 0 3 0 3 2 1 0 0 294 6 0 10 0 319\n"
+    ++ ascii "DP 0 3 0 3 2 1 0 0 384 6 0 10 0 409\n"
     ++ ascii "IN 8\n"
     ++ ascii "EM 9\n"
     ++ ascii "IN 8\n"

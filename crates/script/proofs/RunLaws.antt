@@ -40,7 +40,7 @@ same-line r a out mem = ap (line (lettersOf r)) (same-fields r a _ _ (by-kind r)
   where
     by-kind : (r : Record) (k : ℕ)
         → valueFields r k (bufferAfter r out mem) ≡ valueFields r k ((stepOf r out mem) .out)
-    by-kind (kind.Tick x y) k = refl
+    by-kind (kind.Tick x y valid) k = refl
     by-kind (kind.Dump d) k = refl
     by-kind (kind.Integrate cell) k = refl
     by-kind (kind.Emit e) k = refl

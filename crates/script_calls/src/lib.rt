@@ -34,7 +34,7 @@ pub fn call(mem: &mut [u64], r: Record, out: &mut [u8]) -> Numbered
     ensures leaves { λ _. ⌜ now (mem .exit) ≡ (stepOf r (now (out .entry)) (now (mem .entry))) .mem ⌝ }
 {
     match r {
-        Record::Tick(x, y) => ticked(lta::tick(SHAPE, mem, &[x, y])),
+        Record::Tick(x, y, valid) => ticked(lta::tick(SHAPE, mem, &[x, y, valid])),
         Record::Dump(d) => moved(lta::dump(SHAPE, mem, d.cell, d.command, d.bank, d.phase, out)),
         Record::Integrate(cell) => moved(lta::integrate(SHAPE, mem, cell)),
         Record::Emit(e) => written(lta::emit(SHAPE, mem, e.cell, e.bank, e.bin, out)),

@@ -135,14 +135,14 @@ length-line letters zs =
     omega (arith, length-append (letters ++ spaced zs) (lineFeed ∷ []), length-append letters (spaced zs))
 
 two-letters : (r : Record) → length (lettersOf r) ≡ 2
-two-letters (kind.Tick x y) = refl
+two-letters (kind.Tick x y valid) = refl
 two-letters (kind.Dump d) = refl
 two-letters (kind.Integrate cell) = refl
 two-letters (kind.Emit e) = refl
 
 -- no line has fewer than 26 bytes of room
 room-least : (r : Record) → 26 ≤ mostBytes r
-room-least (kind.Tick x y) = omega arith
+room-least (kind.Tick x y valid) = omega arith
 room-least (kind.Dump d) = omega arith
 room-least (kind.Integrate cell) = omega arith
 room-least (kind.Emit e) = omega arith
@@ -163,7 +163,7 @@ refusal-fits r k h =
 -- 0 and an answer
 value-fits : (r : Record) (k : ℕ) (out : List ℕ) → k < longRange → Below 256 out
     → length (spaced (valueFields r k out)) + 5 ≤ mostBytes r
-value-fits (kind.Tick x y) k out h b = omega (arith, length-spaced (pos k) [], length-none, long-field k h)
+value-fits (kind.Tick x y valid) k out h b = omega (arith, length-spaced (pos k) [], length-none, long-field k h)
 value-fits (kind.Dump d) k out h b = by-test (eqb (d .command) speed)
   where
     by-test : (s : Bool)
@@ -198,7 +198,7 @@ room-by : (tick dump integrate emit : Bool) (b : List ℕ) (r : Record)
     (cond dump (next.Record (dumpIn b))
     (cond integrate (next.Record (integrateIn b)) (cond emit (next.Record (emitIn b)) next.Cut)))
     ≡ next.Record r
-    → mostBytes r ≤ 24 * cond tick 4 (cond dump 7 (cond integrate 3 (cond emit 6 2)))
+    → mostBytes r ≤ 24 * cond tick 5 (cond dump 7 (cond integrate 3 (cond emit 6 2)))
 room-by true dump integrate emit b r e = let same : tickIn b ≡ r = cc in rw (← same) (omega arith)
 room-by false true integrate emit b r e = let same : dumpIn b ≡ r = cc in rw (← same) (omega arith)
 room-by false false true emit b r e = let same : integrateIn b ≡ r = cc in rw (← same) (omega arith)

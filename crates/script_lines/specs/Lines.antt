@@ -34,7 +34,7 @@ line letters zs = letters ++ spaced zs ++ lineFeed ∷ []
 
 -- "its two letters"
 abbrev pub lettersOf : Record → List ℕ
-lettersOf (kind.Tick x y) = ascii "TK"
+lettersOf (kind.Tick x y valid) = ascii "TK"
 lettersOf (kind.Dump d) = ascii "DP"
 lettersOf (kind.Integrate cell) = ascii "IN"
 lettersOf (kind.Emit e) = ascii "EM"
@@ -56,7 +56,7 @@ frameFields kind out =
 
 -- the kind of the frame that a record's call leaves in the buffer where it is accepted, 0 for none
 abbrev pub sentKind : Record → ℕ
-sentKind (kind.Tick x y) = 0
+sentKind (kind.Tick x y valid) = 0
 sentKind (kind.Dump d) = cond (eqb (d .command) speed) speedFrame 0
 sentKind (kind.Integrate cell) = 0
 sentKind (kind.Emit e) = accumulated
@@ -85,7 +85,7 @@ endLine n = line (ascii "END") (pos n ∷ [])
 -- the most bytes that the line of a record has: letters and line feed, and fields of at most 20 digits, of which 0 has
 -- one; in a frame 8 words of at most 10 digits, 9 in a speed frame, and 4 lags with a sign
 abbrev pub mostBytes : Record → ℕ
-mostBytes (kind.Tick x y) = 26
+mostBytes (kind.Tick x y valid) = 26
 mostBytes (kind.Dump d) = 152
 mostBytes (kind.Integrate cell) = 26
 mostBytes (kind.Emit e) = 141

@@ -96,7 +96,7 @@ fn sent_kind(r: Record) -> u32
     ensures { λ k. ⌜ k ≡ sentKind r ⌝ }
 {
     match r {
-        Record::Tick(_, _) => 0,
+        Record::Tick(_, _, _) => 0,
         Record::Dump(d) => if d.command == SPEED { SPEED_FRAME } else { 0 },
         Record::Integrate(_) => 0,
         Record::Emit(_) => ACCUMULATED,
@@ -123,7 +123,7 @@ fn letters(r: Record) -> [u8; 2]
     ensures { λ l. ⌜ l ≡ lettersOf r ⌝ }
 {
     match r {
-        Record::Tick(_, _) => [b'T', b'K'],
+        Record::Tick(_, _, _) => [b'T', b'K'],
         Record::Dump(_) => [b'D', b'P'],
         Record::Integrate(_) => [b'I', b'N'],
         Record::Emit(_) => [b'E', b'M'],

@@ -65,10 +65,10 @@ module _ (n : ℕ) (read : List ℕ → Record) (reads : (l : List ℕ) → read
       })
 
 by-kind : (tick dump integrate emit : Bool)
-    → Kind (cond tick 4 (cond dump 7 (cond integrate 3 (cond emit 6 2)))) (λ b. cond tick (next.Record (tickIn b))
+    → Kind (cond tick 5 (cond dump 7 (cond integrate 3 (cond emit 6 2)))) (λ b. cond tick (next.Record (tickIn b))
     (cond dump (next.Record (dumpIn b))
     (cond integrate (next.Record (integrateIn b)) (cond emit (next.Record (emitIn b)) next.Cut))))
-by-kind true dump integrate emit = known 4 tickIn (λ l. refl) (omega arith) (omega arith)
+by-kind true dump integrate emit = known 5 tickIn (λ l. refl) (omega arith) (omega arith)
 by-kind false true integrate emit = known 7 dumpIn (λ l. refl) (omega arith) (omega arith)
 by-kind false false true emit = known 3 integrateIn (λ l. refl) (omega arith) (omega arith)
 by-kind false false false true = known 6 emitIn (λ l. refl) (omega arith) (omega arith)

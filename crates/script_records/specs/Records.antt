@@ -29,16 +29,16 @@ emitMark = mark "E" "M"
 -- the bytes of a record with these letters, the letters with them; 2 where the letters are unknown
 unfoldable pub recordSize : (letters : ℕ) → ℕ
 recordSize letters =
-    cond (eqb letters tickMark) 4
+    cond (eqb letters tickMark) 5
     (cond (eqb letters dumpMark) 7 (cond (eqb letters integrateMark) 3 (cond (eqb letters emitMark) 6 2)))
 
 -- two bytes from byte i, "low first"
 abbrev pub twoAt : List ℕ → (i : ℕ) → ℕ
 twoAt b i = getD b i 0 + 256 * getD b (i + 1) 0
 
--- "TK and 2 bytes"
+-- "TK and 2 bytes", and by request 2026-06 "TK records carry three"
 abbrev pub tickIn : List ℕ → Record
-tickIn b = kind.Tick (getD b 2 0) (getD b 3 0)
+tickIn b = kind.Tick (getD b 2 0) (getD b 3 0) (getD b 4 0)
 
 -- "DP, cell, command, bank, phase (two bytes, low first), block", and by request 2026-01 "The DP record loses its last
 -- byte."

@@ -19,7 +19,8 @@ pub struct Emit {
 }
 
 pub enum Record {
-    Tick(u8, u8),
+    // X, Y and validity.
+    Tick(u8, u8, u8),
     Dump(Dump),
     Integrate(u64),
     Emit(Emit),
@@ -60,7 +61,7 @@ pub fn size(letters: u64) -> usize
     ensures { λ r. ⌜ r ≡ recordSize letters ⌝ }
 {
     match letters {
-        TK => 4,
+        TK => 5,
         DP => 7,
         IN => 3,
         EM => 6,
@@ -73,7 +74,7 @@ fn tick_in(b: &[u8]) -> Record
     requires { ⌜ recordSize tickMark ≤ length (now b) ⌝ }
     ensures { λ r. ⌜ r ≡ tickIn (now (b .entry)) ⌝ }
 {
-    Record::Tick(b[2], b[3])
+    Record::Tick(b[2], b[3], b[4])
 }
 
 fn dump_in(b: &[u8]) -> Record

@@ -12,7 +12,6 @@ use Rattle.lta_spec.specs.Shape.{peak}
 use Rattle.lta_spec.specs.Tick.{nibble, bothValid, product, weight, turn, inPhase, quadrature}
 use Rattle.lta_spec.specs.Row.{biased, fromWord}
 use Rattle.signal.specs.Signal.{
-  nibbleSample,
   sampleOf,
   phaseOf,
   validOf,
@@ -51,12 +50,7 @@ zero-y a p q t = rw (mul-zero a, zero-mul (weightWord (turned p q t)))
 -- the validity of two stored entries
 pub flags-are : (x y : ℕ) → bothFlag (validOf x) (validOf y) ≡ cond (bothValid (fromWord x) (fromWord y)) 1 0
 unfolding fromWord
-flags-are x y = by-tests (eqb (x % 16) 0) (eqb (y % 16) 0)
-  where
-    by-tests : (a b : Bool) → bothFlag (cond a 0 1) (cond b 0 1) ≡ cond (not a && not b) 1 0
-    by-tests true b = refl
-    by-tests false true = refl
-    by-tests false false = refl
+flags-are x y = refl
 
 -- the largest product
 abbrev half : ℕ
@@ -71,16 +65,27 @@ abbrev term : (u d : ℕ) → ℕ
 term u d = (times16 (word u) (weightWord (d * 4096)) + peak) % 65536
 
 abbrev fromLeast : (a b : ℕ) → ℕ
-fromLeast a b = (times16 (nibbleSample a) (nibbleSample b) + half) % 65536
+fromLeast a b = (times16 a b + half) % 65536
+
+-- the words of two valid samples
+abbrev validProduct : (m n : ℕ) → ℕ
+validProduct m n = fromLeast ((m + 65528) % 65536) ((n + 65528) % 65536)
 
 -- the product of two stored entries, and what it adds at a weight
 module _ (x y : ℕ) where
   u : ℕ
-  u = fromLeast (x % 16) (y % 16)
+  u = fromLeast (sampleOf x) (sampleOf y)
 
   u-small : u ≤ peak
   unfolding u
-  u-small = le-below 16 16 fromLeast (λ a b. peak) tt (x % 16) (y % 16) (omega arith) (omega arith)
+  u-small = by-tests (eqb (validOf x) 0) (eqb (validOf y) 0)
+    where
+      by-tests : (p q : Bool)
+          → fromLeast (cond p 0 ((x % 16 + 65528) % 65536)) (cond q 0 ((y % 16 + 65528) % 65536)) ≤ peak
+      by-tests true q = rw (zero-mul (cond q 0 ((y % 16 + 65528) % 65536))) (omega arith)
+      by-tests false true = rw (mul-zero ((x % 16 + 65528) % 65536)) (omega arith)
+      by-tests false false =
+          le-below 16 16 validProduct (λ a b. peak) tt (x % 16) (y % 16) (omega arith) (omega arith)
 
   word-is : times16 (sampleOf x) (sampleOf y) ≡ word u
   unfolding u
@@ -88,10 +93,16 @@ module _ (x y : ℕ) where
 
   product-is : subℕ u half ≡ product (fromWord x) (fromWord y)
   unfolding u product fromWord
-  product-is =
-      eqZ-below 16 16 (λ a b. subℕ (fromLeast a b) half)
-      (λ a b. cond (not (eqb a 0) && not (eqb b 0)) (nibble ((a + 8) % 16) *ℤ nibble ((b + 8) % 16)) (pos 0))
-      tt (x % 16) (y % 16) (omega arith) (omega arith)
+  product-is = by-tests (eqb (validOf x) 0) (eqb (validOf y) 0)
+    where
+      by-tests : (p q : Bool)
+          → subℕ (fromLeast (cond p 0 ((x % 16 + 65528) % 65536)) (cond q 0 ((y % 16 + 65528) % 65536))) half
+          ≡ cond (not p && not q) (nibble ((x % 16 + 8) % 16) *ℤ nibble ((y % 16 + 8) % 16)) (pos 0)
+      by-tests true q = rw (zero-mul (cond q 0 ((y % 16 + 65528) % 65536)))
+      by-tests false true = rw (mul-zero ((x % 16 + 65528) % 65536))
+      by-tests false false =
+          eqZ-below 16 16 (λ a b. subℕ (validProduct a b) half)
+          (λ a b. nibble ((a + 8) % 16) *ℤ nibble ((b + 8) % 16)) tt (x % 16) (y % 16) (omega arith) (omega arith)
 
   -- what two stored entries add, decoded
   abbrev pub adds : (t : ℕ) → ℕ

@@ -6,22 +6,19 @@ use lib.Dec.{eqb, ltb}
 use Rattle.lta_spec.specs.Shape.{peak}
 
 -- The decoded entry of a stored one: its sample, 0 where it is invalid; its phase, in the top four bits, so that the
--- difference of two wraps at 16; and its validity. n is the low four bits of a stored entry, sample + 8 or, where it is
--- invalid, 0.
-abbrev pub nibbleSample : (n : ℕ) → ℕ
-nibbleSample n = cond (eqb n 0) 0 ((n + 65528) % 65536)
+-- difference of two wraps at 16; and its validity. n is the low four bits of a stored entry, sample + 8, and v its
+-- validity bit.
+abbrev pub validSample : (v n : ℕ) → ℕ
+validSample v n = cond (eqb v 0) 0 ((n + 65528) % 65536)
 
-abbrev pub nibbleValid : (n : ℕ) → ℕ
-nibbleValid n = cond (eqb n 0) 0 1
+abbrev pub validOf : (word : ℕ) → ℕ
+validOf w = w / 256 % 2
 
 abbrev pub sampleOf : (word : ℕ) → ℕ
-sampleOf w = nibbleSample (w % 16)
+sampleOf w = validSample (validOf w) (w % 16)
 
 abbrev pub phaseOf : (word : ℕ) → ℕ
 phaseOf w = w / 16 % 16 * 4096
-
-abbrev pub validOf : (word : ℕ) → ℕ
-validOf w = nibbleValid (w % 16)
 
 -- 1 where two decoded entries are valid
 abbrev pub bothFlag : (u v : ℕ) → ℕ

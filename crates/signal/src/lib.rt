@@ -1,25 +1,40 @@
-// A shift register entry decoded, and what one lag adds, in words of 16 bits. Sums and products wrap, a number below 0
-// stands in two's complement, and nothing is asked of the words. What a lag adds carries a bias of PEAK.
+// A shift register entry stored and decoded, and what one lag adds, in words of 16 bits. Sums and products wrap, a
+// number below 0 stands in two's complement, and nothing is asked of the words. What a lag adds carries a bias of PEAK.
 use lta_spec::PEAK;
 use std::num::wrapping_add_u16;
 use std::num::wrapping_sub_u16;
 ghost use mathlib.Core.Path.{_≡_};
 ghost use Prim.Native.Nat.{_≤_};
+ghost use Rattle.lta_spec.specs.Row.{entryWord};
 ghost use Rattle.signal.specs.Signal.{sampleOf, phaseOf, validOf, bothFlag, times16, turned};
 ghost use Rattle.signal.specs.Signal.{weightWord, contribution};
 
 // A sample of 0, as a shift register keeps it.
 const STORED_ZERO: u16 = 8;
 
+// A sampler byte and its validity bit as a shift register keeps them: sample + 8, 16 × phase, 256 × the bit.
+pub fn entry_of(byte: u8, bit: u8) -> u64
+    ensures { λ r. ⌜ r ≡ entryWord byte bit ⌝ }
+{
+    let b = byte as u64;
+    (b % 16 + STORED_ZERO as u64) % 16 + 16 * (b / 16 % 16) + 256 * bit as u64
+}
+
+// 1 where a stored entry is valid, else 0.
+pub fn valid_of(w: u16) -> u16
+    ensures { λ r. ⌜ r ≡ validOf w ⌝ }
+{
+    w / 256 % 2
+}
+
 // The sample of a stored entry, 0 where it is invalid.
 pub fn sample_of(w: u16) -> u16
     ensures { λ r. ⌜ r ≡ sampleOf w ⌝ }
 {
-    let n = w % 16;
-    if n == 0 {
+    if valid_of(w) == 0 {
         0
     } else {
-        wrapping_sub_u16(n, STORED_ZERO)
+        wrapping_sub_u16(w % 16, STORED_ZERO)
     }
 }
 
@@ -28,13 +43,6 @@ pub fn phase_of(w: u16) -> u16
     ensures { λ r. ⌜ r ≡ phaseOf w ⌝ }
 {
     w / 16 % 16 * 4096
-}
-
-// 1 where a stored entry is valid, else 0.
-pub fn valid_of(w: u16) -> u16
-    ensures { λ r. ⌜ r ≡ validOf w ⌝ }
-{
-    (w % 16 != 0) as u16
 }
 
 // 1 where both of two decoded entries are valid, else 0, by their validity.

@@ -45,7 +45,7 @@ fn place(i: u64) -> u64 {
     wrapping_add_u64(start(2, 1, i / 18), wrapping_add_u64(at, i % 3))
 }
 
-// Number i: every tick counts at the edge, every other one in the centre. Stored sums of 0 are -98 × ticks.
+// Number i: every tick counts at the edge, every other one in the centre. Stored sums of 0 are -128 × ticks.
 fn number(r: u64, i: u64) -> u64 {
     let x = ticks(r, i / 18, i / 3 % 6);
     if i % 3 == 2 { x / 2 } else { x }
@@ -71,6 +71,7 @@ fn call(r: u64) -> Call {
         a: 0,
         b: 0,
         phase: 0,
+        validity: 0,
     }
 }
 

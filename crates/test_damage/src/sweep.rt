@@ -6,6 +6,7 @@ use test_lib_memory::base::built;
 use test_lib_memory::base::shape;
 use test_lib_memory::base::variant;
 use test_lib_memory::base::word;
+use test_lib_memory::map::greatest;
 use test_lib_row::modelled;
 use test_lib_rules::call::Call;
 use test_lib_rules::call::DUMP;
@@ -39,12 +40,12 @@ fn near_long(j: u64) -> u64 {
 fn value(j: u64, u: u64, ticks: u64) -> u64 {
     match j {
         0..=8 => j,
-        9 => 255,
-        10 => 256,
+        9 => 511,
+        10 => 512,
         11 => ticks,
         12 => ticks % 4294967296 + 1,
-        13 => times(ticks, 196),
-        14 => times(ticks, 196) % 4294967296 + 1,
+        13 => greatest(ticks),
+        14 => greatest(ticks) % 4294967296 + 1,
         15 => NOW,
         16 => NOW + 1,
         17 => 524288,
@@ -72,7 +73,7 @@ fn kind(g: u64) -> u64 {
     }
 }
 
-// Tick: two bytes; dump: command and bank; emission: the bin of Held's label; reading: lag 1 of loss 4.
+// Tick: X and Y, both valid; dump: command and bank; emission: the bin of Held's label; reading: lag 1 of loss 4.
 fn first(g: u64, i: u64) -> u64 {
     match g {
         0 => 0x35,
@@ -95,7 +96,7 @@ fn second(g: u64) -> u64 {
 // Samples of both cells, a frame's length, a page's, a speed frame's.
 fn bytes(n: u64, g: u64) -> u64 {
     match g {
-        0 => 4,
+        0 => 6,
         8 => page::length(2),
         9 => 38 + 8 * (n % 256),
         _ => 34 + 8 * (n % 256),
@@ -112,6 +113,7 @@ fn call(n: u64, g: u64, i: u64) -> Call {
         a: first(g, i),
         b: second(g),
         phase: 0,
+        validity: 3,
     }
 }
 

@@ -6,6 +6,7 @@ use test_lib_frames::ask::fields_are;
 use test_lib_frames::ask::normal;
 use test_lib_frames::ask::normal_is;
 use test_lib_tools::bytes::BINNED;
+use test_lib_tools::bytes::SPEED;
 use test_lib_tools::bytes::head;
 use test_lib_tools::bytes::length;
 use test_lib_tools::bytes::put;
@@ -18,8 +19,13 @@ use test_lib_tools::words::word_of;
 // The words that document 01 prints.
 const WORDS: [u64; 12] = [2, 0, 3, 2, 1, 0, 0, 6, 0, 10, 0, 24];
 
-// The words of its speed frame: kind 3, and 294 is 98 × 3.
-const SPEED_WORDS: [u64; 13] = [3, 0, 3, 2, 1, 0, 0, 294, 6, 0, 10, 0, 319];
+// The words of its speed frame: kind 3, and 384 is 128 × 3.
+const SPEED_WORDS: [u64; 13] = [3, 0, 3, 2, 1, 0, 0, 384, 6, 0, 10, 0, 409];
+
+// DATA_BIAS and the last word as they were before request 2026-06: 98 × 3, and the sum with it.
+const OLD_BIAS: u32 = 294;
+
+const OLD_SUM: u32 = 319;
 
 // Word k of the frame of a kind.
 fn word(kind: u64, k: u64) -> u64 {
@@ -75,4 +81,13 @@ pub fn frame(t: Tally, kind: u64) -> Tally {
     let b = note(a, fields_right(bytes, kind));
     let c = note(b, comes_back(2, bytes));
     normalised(c, bytes)
+}
+
+// "A speed frame written before with any ticks in it is then refused by 18."
+pub fn written_before(t: Tally) -> Tally {
+    let mut s = [0u8; 54];
+    example(&mut s, SPEED);
+    put_word(&mut s, 7, OLD_BIAS);
+    put_word(&mut s, 12, OLD_SUM);
+    expect_read(t, 2, &s, length(2, SPEED), 18)
 }

@@ -1,5 +1,5 @@
-// Holds the calls of crate frame to document 01, "The frame" and "Who may be told no", and to request 2026-04: a line
-// for each group of rows, once for each kind of frame.
+// Holds the calls of crate frame to document 01, "The frame" and "Who may be told no", and to requests 2026-04 and
+// 2026-06: a line for each group of rows, once for each kind of frame.
 // What is due is written in the rows, or decided by the model of test_lib_frames; from the crates under test come the
 // calls and the types of their answers.
 mod example;
@@ -22,7 +22,13 @@ use test_lib_tools::words::get;
 // Row i of a group that is run once.
 fn once(t: Tally, g: u64, kind: u64, i: u64) -> Tally {
     match g {
-        0 => example::frame(t, kind),
+        0 => {
+            if i == 0 {
+                example::frame(t, kind)
+            } else {
+                example::written_before(t)
+            }
+        }
         1 => normal::no_ticks(t, kind, i),
         2 => order::bad(t, kind, i),
         3 => order::reading(t, kind, i),
@@ -90,11 +96,13 @@ const ROWS: [u64; 19] = [
     6000,
 ];
 
-// What a group of speed frames has more, for DATA_BIAS: a defect, some words, and the bits of one.
+// What a group of speed frames has more, for DATA_BIAS: the example written before request 2026-06, a defect, some
+// words, and the bits of one.
 fn bias_rows(g: u64) -> u64 {
     match g {
+        0 => 1,
         3 => 32,
-        8 => 9,
+        8 => 10,
         9 => 32,
         _ => 0,
     }

@@ -57,14 +57,15 @@ fn quotient(t: Tally, n: u64, code: u64, centre: u32, re: f64, im: f64) -> Tally
 pub fn quotients(t: Tally, kind: u64, n: u64) -> Tally {
     let g = coded(kind, FULL + 16777215);
     let base = coded(kind, BASE);
-    let a = quotient(t, n, g, 16777215, 98.0, -98.0);
-    let b = quotient(a, n, g, 1, 1644167070.0, -1644167070.0);
-    let c = quotient(b, n, g, 16777213, 98.00001168251246, -98.00001168251246);
+    let a = quotient(t, n, g, 16777215, 128.0, -128.0);
+    let b = quotient(a, n, g, 1, 2147483520.0, -2147483520.0);
+    let c = quotient(b, n, g, 16777213, 128.0000152587918, -128.0000152587918);
     let d = quotient(c, n, base, 3, 0.3333333333333333, -15.333333333333334);
     quotient(d, n, base, 999, 0.001001001001001001, -0.04604604604604605)
 }
 
-// Lag words of a frame without ticks: 0 is within 98 × 0; 1 and -1 are beyond it.
+// Lag words of a frame without ticks: 0 is within 128 × 0; 1 and -1 are beyond it. Written before request 2026-06, with
+// 98 × 0 in the place of DATA_BIAS, a speed frame without ticks has the same bytes.
 const SMALL: [u64; 3] = [0, 1, 4294967295];
 
 // No ticks, and number i of these as the last lag word of N = 2.

@@ -37,6 +37,8 @@ use test_lib_rules::history::QUADRATURE;
 use test_lib_rules::history::VALID;
 use test_lib_rules::history::entry;
 use test_lib_rules::history::pair;
+use test_lib_rules::history::sampled;
+use test_lib_tools::bytes::PEAK;
 use test_lib_tools::words::get;
 use test_lib_tools::words::less;
 
@@ -169,23 +171,23 @@ fn emit_word(cell: &[u64], n: u64, at: u64, j: u64) -> u64 {
     }
 }
 
-// The entry that a register has d ticks ago after the tick: the new byte's, or the entry that stood one before.
-fn shifted(cell: &[u64], at: u64, byte: u64, d: u64) -> u64 {
+// The entry that a register has d ticks ago after the tick: the new sample's, or the entry that stood one before.
+fn shifted(cell: &[u64], at: u64, sample: u64, d: u64) -> u64 {
     if d == 0 {
-        entry(byte)
+        entry(sample)
     } else {
         get(cell, wrapping_add_u64(at, less(d, 1)))
     }
 }
 
-// What the tick adds at a lag. An entry and its byte differ by 8 in the sample alone, either way.
+// What the tick adds at a lag, by the samples of two entries.
 fn adds(cell: &[u64], n: u64, x: u64, y: u64, k: u64, what: u64) -> u64 {
     let xs = shifted(cell, register(n, 0), x, (k % 256 + 1) / 2);
     let ys = shifted(cell, register(n, 1), y, less(n / 2, k / 2));
     pair(entry(xs), entry(ys), what)
 }
 
-// What the tick adds to word i of a row; a sum is stored as sum + 98 × ticks.
+// What the tick adds to word i of a row; a sum is stored as sum + 128 × ticks.
 fn row_adds(cell: &[u64], n: u64, x: u64, y: u64, i: u64) -> u64 {
     match i {
         0 => 1,
@@ -193,22 +195,23 @@ fn row_adds(cell: &[u64], n: u64, x: u64, y: u64, i: u64) -> u64 {
         2 => adds(cell, n, x, y, n / 2, VALID),
         _ => {
             let what = if i % 2 == 1 { IN_PHASE } else { QUADRATURE };
-            wrapping_add_u64(98, adds(cell, n, x, y, less(i, 3) / 2, what))
+            wrapping_add_u64(PEAK, adds(cell, n, x, y, less(i, 3) / 2, what))
         }
     }
 }
 
 // A register that starts with word `at`, after the tick.
-fn register_word(cell: &[u64], n: u64, stream: u64, byte: u64, j: u64) -> u64 {
+fn register_word(cell: &[u64], n: u64, stream: u64, sample: u64, j: u64) -> u64 {
     let at = register(n, stream);
     if within(j, at, depth(n)) {
-        shifted(cell, at, byte, less(j, at))
+        shifted(cell, at, sample, less(j, at))
     } else {
         get(cell, j)
     }
 }
 
-// Word j of a cell after a tick that brings x and y: Open or loss 6, then the X register, then the Y register.
+// Word j of a cell after a tick that brings the samples x and y: Open or loss 6, then the X register, then the Y
+// register.
 fn tick_word(cell: &[u64], n: u64, x: u64, y: u64, j: u64) -> u64 {
     let set = row(n, if full(cell, n) { loss(6) } else { OPEN });
     if within(j, set, row_words(n)) {
@@ -232,8 +235,8 @@ fn call_word(cell: &[u64], n: u64, b: u64, m: u64, t: u64, k: Call, answer: u64,
     }
 }
 
-// Word j of cell c after a call that was accepted with this answer. Of a tick, a and b are the bytes that every cell
-// gets.
+// Word j of cell c after a call that was accepted with this answer. Of a tick, a and b are the X byte and the Y byte
+// that every cell gets.
 fn cell_word(
     cell: &[u64],
     n: u64,
@@ -246,7 +249,8 @@ fn cell_word(
     j: u64,
 ) -> u64 {
     if k.kind == TICK {
-        return tick_word(cell, n, k.a, k.b, j);
+        let x = sampled(k.a, k.validity, 0);
+        return tick_word(cell, n, x, sampled(k.b, k.validity, 1), j);
     }
     if (c == k.cell) & (answer != 7) {
         call_word(cell, n, b, m, t, k, answer, j)

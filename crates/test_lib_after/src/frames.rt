@@ -14,6 +14,7 @@ use test_lib_rules::call::DUMP;
 use test_lib_rules::call::frame_kind;
 use test_lib_rules::frame_words::Header;
 use test_lib_rules::frame_words::header_word;
+use test_lib_tools::bytes::PEAK;
 use test_lib_tools::bytes::framed;
 use test_lib_tools::bytes::heads;
 use test_lib_tools::bytes::last;
@@ -23,9 +24,9 @@ use test_lib_tools::words::tail;
 use test_lib_tools::words::times;
 use test_lib_tools::words::word_of;
 
-// Word j from DATA_BIAS on, 98 × ticks; from word `first` on a stored sum, less that.
+// Word j from DATA_BIAS on, 128 × ticks; from word `first` on a stored sum, less that.
 fn biased_word(set: &[u64], first: u64, j: u64) -> u64 {
-    let bias = times(get(set, 0), 98);
+    let bias = times(get(set, 0), PEAK);
     if j < first {
         bias
     } else {

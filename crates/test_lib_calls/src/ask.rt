@@ -16,7 +16,9 @@ use test_lib_rules::call::Call;
 use test_lib_rules::call::DUMP;
 use test_lib_rules::call::PAGE;
 use test_lib_rules::call::TICK;
+use test_lib_tools::bytes::get;
 use test_lib_tools::bytes::head;
+use test_lib_tools::bytes::put;
 
 // What stands for a call that could not be made: the test has no such buffer.
 const NOT_LENT: u64 = 98;
@@ -36,6 +38,7 @@ fn number(r: Refusal) -> u64 {
         Refusal::ShortBuffer => 10,
         Refusal::Damaged => 11,
         Refusal::NoLag => 12,
+        Refusal::BadValidity => 19,
         _ => 99,
     }
 }
@@ -95,9 +98,21 @@ pub fn setup(s: Shape, mem: &mut [u64], words: u64) -> u64 {
     }
 }
 
+// The bits of the call's validity byte but X's and Y's, in the validity byte of its cell.
+fn put_stray(samples: &mut [u8], k: Call) {
+    let cell = k.cell;
+    if cell < 16 {
+        let at = (3 * cell + 2) as usize;
+        let other = (k.validity % 256) as u8 & 0xfc;
+        let all = get(samples, at) | other;
+        put(samples, at, all);
+    }
+}
+
 // A tick, of as many samples as the call lends, or an integration.
-fn on_lent(s: Shape, mem: &mut [u64], k: Call, samples: &[u8]) -> u64 {
+fn on_lent(s: Shape, mem: &mut [u64], k: Call, samples: &mut [u8]) -> u64 {
     if k.kind == TICK {
+        put_stray(&mut *samples, k);
         ticked(lta::tick(s, mem, head(samples, (k.bytes % 65536) as usize)))
     } else {
         moved(lta::integrate(s, mem, k.cell))
@@ -105,7 +120,7 @@ fn on_lent(s: Shape, mem: &mut [u64], k: Call, samples: &[u8]) -> u64 {
 }
 
 // A tick or an integration, on as many words as the call lends.
-pub fn moves(s: Shape, mem: &mut [u64], k: Call, samples: &[u8]) -> u64 {
+pub fn moves(s: Shape, mem: &mut [u64], k: Call, samples: &mut [u8]) -> u64 {
     let e = (k.words % 65536) as usize;
     if e <= mem.len() {
         on_lent(s, &mut mem[0..e], k, samples)

@@ -151,15 +151,15 @@ pub fn turned(kind: u64, row: u64) -> u64 {
 }
 
 // What is due to another word k of the header that keeps to 16, or does not: 18 where it keeps to it and DATA_BIAS
-// "differs from 98 × ticks".
+// differs from 128 × ticks.
 fn due(kind: u64, k: u64, keeps: bool) -> u64 {
     let differs = (kind == SPEED) & ((k == 2) | (k == 7));
     pick(keeps, pick(differs, 18, 0), 16)
 }
 
-// Header words: the word's number, and its value. First 16 that keep to 16, then 21 that do not, and 9 of DATA_BIAS,
-// where 98,000 is right.
-const WORDS: [u64; 46] = [
+// Header words: the word's number, and its value. First 16 that keep to 16, then 21 that do not, and 10 of DATA_BIAS,
+// where 128,000 is right.
+const WORDS: [u64; 47] = [
     // kind 2, and the least and the greatest cell
     0x0_0000_2802,
     0x0_0000_0002,
@@ -206,16 +206,17 @@ const WORDS: [u64; 46] = [
     0x6_0f42_4000,
     0x6_0fff_ffff,
     0x6_ffff_ffff,
-    // DATA_BIAS: none, 1 × ticks, 97 and 99 × ticks, one less and one more, the memo's 112 × ticks, minus 98 × ticks,
-    // and all bits
+    // DATA_BIAS: none, 1 × ticks, 127 and 129 × ticks, one less and one more, the memo's 112 × ticks, 98 × ticks as in
+    // "A speed frame written before", minus 128 × ticks, and all bits
     0x7_0000_0000,
     0x7_0000_03e8,
-    0x7_0001_7ae8,
-    0x7_0001_82b8,
-    0x7_0001_7ecf,
-    0x7_0001_7ed1,
+    0x7_0001_f018,
+    0x7_0001_f7e8,
+    0x7_0001_f3ff,
+    0x7_0001_f401,
     0x7_0001_b580,
-    0x7_fffe_8130,
+    0x7_0001_7ed0,
+    0x7_fffe_0c00,
     0x7_ffff_ffff,
 ];
 
@@ -227,7 +228,7 @@ pub fn header_word(t: Tally, kind: u64, n: u64, i: u64) -> Tally {
 }
 
 // The header words of the base frame, and DATA_BIAS.
-const HEADER: [u64; 8] = [0x2802, 0x812c4d00, 1000, 900, 800, 123456, 789, 98000];
+const HEADER: [u64; 8] = [0x2802, 0x812c4d00, 1000, 900, 800, 123456, 789, 128000];
 
 // Their bits that may be turned, one at a time. No fixed bit is here: W0 has its cell alone, W1 not its bits 0-7, W6
 // not its bits 29-31. Data bin: 300 stays below 1,000 by its ten low bits. Ticks: 1,000 stays from 900 to 16,777,215.

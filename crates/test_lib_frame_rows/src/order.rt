@@ -81,12 +81,13 @@ fn length_but(kind: u64, mask: u64, b: u64) -> usize {
 }
 
 // Reading with the mask's defects: the first that applies is returned. Each row also normalises lag N, whose 12 comes
-// last. Word 7 of the base frame is DATA_BIAS, or I of lag 0.
+// last. Word 7 of the base frame is DATA_BIAS, or I of lag 0; the defect is the DATA_BIAS of "A speed frame written
+// before".
 pub fn reading(t: Tally, kind: u64, mask: u64) -> Tally {
     let n = choose(mask, 0, 3, 2) as u64;
     let code = kind_code(kind, mask, 4);
     let len = length_but(kind, mask, 1);
-    let w = choose(mask, 5, 98001, word_of(pick(kind == SPEED, 98000, 1)));
+    let w = choose(mask, 5, 98000, word_of(pick(kind == SPEED, 128000, 1)));
     let add = choose(mask, 3, 1, 0);
     let mark = (choose(mask, 2, 0x4d, 0x4c) % 256) as u8;
     case(t, n, 2, code, len, 7, w, add, 0, mark, read_says(mask))
@@ -110,7 +111,7 @@ pub fn writing(t: Tally, kind: u64, mask: u64) -> Tally {
         2,
         coded(kind, BASE),
         at,
-        choose(mask, 2, 98001, 53),
+        choose(mask, 2, 128001, 53),
         0,
     );
     let n = choose(mask, 0, 3, 2) as u64;

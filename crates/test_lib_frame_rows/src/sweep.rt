@@ -1,10 +1,12 @@
 // Pseudo-random frames, read and written again; and damaged, and held to the model.
+use std::num::wrapping_add_u32;
 use test_lib_frames::ask::comes_back;
 use test_lib_frames::ask::expect_read;
 use test_lib_frames::ask::normal_is;
 use test_lib_frames::ask::reads_as;
 use test_lib_frames::build::FULL;
 use test_lib_frames::build::SEED;
+use test_lib_frames::build::bias;
 use test_lib_frames::build::build;
 use test_lib_frames::build::coded;
 use test_lib_frames::build::kind_of;
@@ -61,7 +63,7 @@ pub fn random(t: Tally, kind: u64, n: u64, i: u64) -> Tally {
     whole(t, n, seed, below(seed, 90, n))
 }
 
-// 98 × 16,777,215 in I and -98 × 16,777,215 in Q of every lag: the first and the last lag normalised.
+// 128 × 16,777,215 in I and -128 × 16,777,215 in Q of every lag: the first and the last lag normalised.
 pub fn greatest(t: Tally, kind: u64, n: u64) -> Tally {
     let code = coded(kind, FULL + 16777215);
     let a = whole(t, n, code, 0);
@@ -84,14 +86,15 @@ const ODD: [u64; 10] = [
 
 // Another value for a word w: another low byte; at or next to what a frame of these ticks allows; any; one of these.
 fn other(seed: u64, w: u32, ticks: u32) -> u32 {
-    let most = 98 * (ticks % 16777216);
+    let most = bias(ticks);
+    let past = wrapping_add_u32(most, 1);
     match below(seed, 91, 16) {
         0 => ticks,
         1 => ticks % 16777216 + 1,
         2 => most,
-        3 => most + 1,
+        3 => past,
         4 => minus(most),
-        5 => minus(most + 1),
+        5 => minus(past),
         6 => upto(seed, 92, 4294967295),
         7 | 8 | 9 | 10 => w ^ word_of(1 + below(seed, 94, 255) % 256),
         _ => word_of(get(&ODD, below(seed, 93, 10))),

@@ -54,8 +54,16 @@ pub fn room(t: Tally, kind: u64, n: u64, i: u64) -> Tally {
     written(t, n, code, twice(n), near(length(n, kind), i), i < 4, 10)
 }
 
-// "a lag beyond 98 × ticks": 98000 and -98000 are the limits of the base frame; 98001, -98001, -2^31 and 2^31 - 1.
-const LAGS: [u64; 6] = [98000, 4294869296, 98001, 4294869295, 0x80000000, 0x7fffffff];
+// "a lag beyond 98 × ticks", with 128 for 98: 128000 and -128000 are the limits of the base frame; 128001, -128001,
+// -2^31 and 2^31 - 1.
+const LAGS: [u64; 6] = [
+    128000,
+    4294839296,
+    128001,
+    4294839295,
+    0x80000000,
+    0x7fffffff,
+];
 
 // Row i: number i mod 6 of these as lag word i div 6, read and written.
 pub fn lag(t: Tally, kind: u64, n: u64, i: u64) -> Tally {

@@ -1,6 +1,7 @@
 // Frames, built by the test itself: N and a code say all of a frame.
 use lta_spec::Fields;
 use test_lib_tools::bytes::BINNED;
+use test_lib_tools::bytes::PEAK;
 use test_lib_tools::bytes::heads;
 use test_lib_tools::bytes::last;
 use test_lib_tools::bytes::minus;
@@ -14,7 +15,7 @@ use test_lib_tools::random::upto;
 use test_lib_tools::words::word_of;
 
 // The code of the base frame, from which most rows start. The digit before the low eight says which field (in the
-// order of Fields) has the value that they tell; Ah is none of the fields. A lag may be 98000 in size.
+// order of Fields) has the value that they tell; Ah is none of the fields. A lag may be 128000 in size.
 pub const BASE: u64 = 0xa_0000_0000;
 
 // FULL and a number: that many ticks, all valid, the greatest value in every other field, and lags as great as they
@@ -107,9 +108,9 @@ pub fn fields_of(code: u64) -> Fields {
     }
 }
 
-// "98 × ticks".
-fn bias(ticks: u32) -> u32 {
-    98 * (ticks % 16777216)
+// DATA_BIAS, which is also the most that a lag may be in size.
+pub fn bias(ticks: u32) -> u32 {
+    word_of(PEAK * (ticks % 16777216) as u64)
 }
 
 // Header word k, by its bits in document 01; the eighth is DATA_BIAS.

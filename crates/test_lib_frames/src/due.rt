@@ -1,5 +1,6 @@
 // What the papers say of any bytes, written from their text alone: the model that the reader is compared with.
 use test_lib_tools::bytes::BINNED;
+use test_lib_tools::bytes::PEAK;
 use test_lib_tools::bytes::SPEED;
 use test_lib_tools::bytes::heads;
 use test_lib_tools::bytes::last;
@@ -35,12 +36,12 @@ fn size(w: u32) -> u64 {
     }
 }
 
-// "98 × ticks".
+// "98 × ticks", with 128 for 98.
 fn most(s: &[u8]) -> u64 {
-    98 * word(s, 2) as u64
+    PEAK * word(s, 2) as u64
 }
 
-// "a lag beyond 98 × ticks": the lags are the words from a up to e.
+// "a lag beyond 98 × ticks", so read: the lags are the words from a up to e.
 fn lags_wrong(s: &[u8], a: usize, e: usize) -> bool {
     let mut wrong = false;
     let mut j = a;
@@ -57,7 +58,7 @@ fn fields_wrong(s: &[u8], n: u64, kind: u64) -> bool {
     header_wrong(s, kind) | lags_wrong(s, heads(kind), last(n, kind))
 }
 
-// "18 when a speed frame's DATA_BIAS differs from 98 × ticks".
+// "18 when a speed frame's DATA_BIAS differs from 98 × ticks", so read.
 fn bias_wrong(s: &[u8], kind: u64) -> bool {
     (kind == SPEED) & (word(s, 7) as u64 != most(s))
 }

@@ -83,8 +83,17 @@ fn words(m: &[u64], i: u64) -> u64 {
 
 // The bytes of a tick.
 fn samples(m: &[u64], i: u64) -> u64 {
-    let right = 2 * (cells(m) % 32);
-    near(random(m, i, 5, 120), right, right + 2)
+    let right = 3 * (cells(m) % 32);
+    near(random(m, i, 5, 120), right, right + 3)
+}
+
+// The bits that no validity byte has, in every 40th tick some of them.
+fn stray(m: &[u64], i: u64) -> u64 {
+    if random(m, i, 28, 40) == 0 {
+        4 * (random(m, i, 29, 64) % 64)
+    } else {
+        0
+    }
 }
 
 // The buffer of a dump, an emission or a page: now and then a long one.
@@ -147,6 +156,7 @@ fn of_kind(m: &[u64], i: u64, kind: u64) -> Call {
         a: first_argument(m, i, kind),
         b: second_argument(m, i, kind),
         phase: phase(m, i),
+        validity: stray(m, i),
     }
 }
 
@@ -169,11 +179,12 @@ fn first_call(m: &[u64], i: u64) -> Call {
     Call {
         kind: kind,
         words: needed(shape(m)),
-        bytes: 2 * count,
+        bytes: 3 * count,
         cell: if kind == DUMP { less(count, 1) } else { 0 },
         a: 4,
         b: 0,
         phase: 0,
+        validity: 0,
     }
 }
 

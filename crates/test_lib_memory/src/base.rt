@@ -1,6 +1,7 @@
 // Work memory that nobody but the test has written: two cells, three data bins for a bank, three blocks from 5 on, and
 // every word within its limits. A variant says what differs: is Held occupied, its command, the state of its bin, and
 // is Open full?
+use crate::map::greatest;
 use lta_spec::Shape;
 use std::num::wrapping_add_u64;
 use test_lib_rules::call::cell_words;
@@ -9,7 +10,6 @@ use test_lib_rules::call::stored_command;
 use test_lib_tools::words::less;
 use test_lib_tools::words::mix;
 use test_lib_tools::words::put;
-use test_lib_tools::words::times;
 
 // t: less than the ticks of some sets, which no call asks about.
 pub const NOW: u64 = 1000;
@@ -84,7 +84,7 @@ fn row_word(ticks: u64, j: u64, i: u64) -> u64 {
     match j {
         0 | 1 => ticks,
         2 => ticks / 2,
-        _ => mix(i, 5) % (times(ticks, 196) % 4294967296 + 1),
+        _ => mix(i, 5) % (greatest(ticks) % 4294967296 + 1),
     }
 }
 
@@ -108,7 +108,7 @@ fn bin_word(n: u64, v: u64, i: u64, row: bool) -> u64 {
 fn behind_rows(n: u64, v: u64, i: u64, rows: u64, row: bool) -> u64 {
     let registers = wrapping_add_u64(rows, 2 * (n % 256 / 2 + 1));
     if i < registers {
-        mix(i, 3) % 256
+        mix(i, 3) % 512
     } else {
         bin_word(n, v, i - registers, row)
     }

@@ -12,6 +12,7 @@ use crate::map::OPEN_STAMP;
 use crate::map::bin;
 use crate::map::cell_of;
 use crate::map::depth;
+use crate::map::greatest;
 use crate::map::loss;
 use crate::map::number;
 use crate::map::register;
@@ -44,9 +45,9 @@ pub const WIDE: u64 = 16777215;
 
 pub const LONG: u64 = 2147483648;
 
-// "a sum passes 98 × ticks in size": as it is stored, 196 × ticks.
+// "a sum passes 98 × ticks in size", with 128 for 98.
 fn sums_bad(cell: &[u64], at: u64, n: u64, ticks: u64) -> bool {
-    let most = times(ticks, 196);
+    let most = greatest(ticks);
     let end = 2 * (n % 256);
     let mut bad = false;
     let mut j: u64 = 0;
@@ -109,14 +110,14 @@ fn losses_bad(cell: &[u64], n: u64) -> bool {
     bad
 }
 
-// "a shift register entry is one that no sampler byte gives": above 255.
+// "a shift register entry is one that no sampler byte gives": above 511.
 fn registers_bad(cell: &[u64], n: u64) -> bool {
     let entries = tail(cell, register(n, 0));
     let end = times(2, depth(n));
     let mut bad = false;
     let mut i: u64 = 0;
     while i < end {
-        let past = get(entries, i) > 255;
+        let past = get(entries, i) > 511;
         bad = bad | past;
         i += 1;
     }

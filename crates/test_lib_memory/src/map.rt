@@ -1,7 +1,8 @@
-// Where each part of a cell stands in its words, by docs/LAYOUT.md; n is N, b is B. In due and in
-// test_lib_after m is M.
+// Where each part of a cell stands in its words, and how great a sum may stand there, by docs/LAYOUT.md; n is N, b is
+// B. In due and in test_lib_after m is M.
 use std::num::wrapping_add_u64;
 use test_lib_rules::call::cell_words;
+use test_lib_tools::bytes::PEAK;
 use test_lib_tools::words::less;
 use test_lib_tools::words::tail;
 use test_lib_tools::words::times;
@@ -30,6 +31,11 @@ pub const HELD: u64 = 1;
 
 pub fn loss(l: u64) -> u64 {
     1 + l % 16
+}
+
+// The greatest sum of so many ticks, 128 × ticks, as it is stored, with 128 × ticks added; the least is stored as 0.
+pub fn greatest(ticks: u64) -> u64 {
+    times(ticks, 2 * PEAK)
 }
 
 // The words of a row, and of a register.

@@ -17,6 +17,7 @@ use test_lib_rules::frame_words::header_word;
 use test_lib_rules::history::IN_PHASE;
 use test_lib_rules::history::QUADRATURE;
 use test_lib_rules::history::VALID;
+use test_lib_tools::bytes::PEAK;
 use test_lib_tools::bytes::framed;
 use test_lib_tools::bytes::heads;
 use test_lib_tools::bytes::last;
@@ -44,7 +45,7 @@ fn set_word(m: &[u64], c: u64, p: u64, first: u64, j: u64) -> u64 {
         2 => members(m, c, p),
         3 => sum(m, c, p, lags(m) / 2, VALID),
         4 => sum(m, c, p, 0, VALID),
-        _ => times(98, members(m, c, p)),
+        _ => times(PEAK, members(m, c, p)),
     }
 }
 

@@ -17,10 +17,11 @@ use test_lib_rules::history::IN_PHASE;
 use test_lib_rules::history::QUADRATURE;
 use test_lib_rules::history::VALID;
 use test_lib_rules::history::registered;
+use test_lib_tools::bytes::PEAK;
 use test_lib_tools::words::get;
 use test_lib_tools::words::less;
 
-// Word j of the row of a set: ticks, edge and centre count, then I and Q of each lag, sum + 98 × ticks.
+// Word j of the row of a set: ticks, edge and centre count, then I and Q of each lag, sum + 128 × ticks.
 pub fn row_word(m: &[u64], c: u64, p: u64, j: u64) -> u64 {
     let ticks = members(m, c, p) % 4294967296;
     match j {
@@ -29,7 +30,7 @@ pub fn row_word(m: &[u64], c: u64, p: u64, j: u64) -> u64 {
         2 => sum(m, c, p, lags(m) / 2, VALID),
         _ => {
             let what = if j % 2 == 1 { IN_PHASE } else { QUADRATURE };
-            wrapping_add_u64(sum(m, c, p, less(j, 3) / 2, what), 98 * ticks)
+            wrapping_add_u64(sum(m, c, p, less(j, 3) / 2, what), PEAK * ticks)
         }
     }
 }

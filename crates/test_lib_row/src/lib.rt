@@ -18,6 +18,7 @@ use test_lib_rules::call::FORECAST;
 use test_lib_rules::call::PAGE;
 use test_lib_rules::call::READING;
 use test_lib_rules::call::frame_kind;
+use test_lib_tools::bytes::PEAK;
 use test_lib_tools::bytes::fill_pattern;
 use test_lib_tools::bytes::kept;
 use test_lib_tools::report::Tally;
@@ -28,11 +29,13 @@ use test_lib_tools::words::less;
 use test_lib_tools::words::tail;
 use test_lib_tools::words::times;
 
-// A tick in which every cell gets the bytes a and b; an integration.
+// A tick in which every cell gets the bytes a and b, and the call's two low bits of validity; an integration.
 fn moves(s: Shape, mem: &mut [u64], k: Call) -> u64 {
     let x = (k.a % 256) as u8;
     let y = (k.b % 256) as u8;
-    ask::moves(s, mem, k, &[x, y, x, y, x, y])
+    let v = (k.validity % 4) as u8;
+    let mut samples = [x, y, v, x, y, v, x, y, v];
+    ask::moves(s, mem, k, &mut samples)
 }
 
 // Is the frame or the page right; or, where the call is refused or is a dump that writes no frame, is no byte of the
@@ -58,7 +61,7 @@ fn writes(s: Shape, mem: &mut [u64], old: &[u64], k: Call, due: u64) -> bool {
 
 // A stored sum as a number in two's complement.
 fn sum(set: &[u64], j: u64) -> u64 {
-    wrapping_sub_u64(get(set, j), times(get(set, 0), 98))
+    wrapping_sub_u64(get(set, j), times(get(set, 0), PEAK))
 }
 
 // The numbers of a row of memory at a lag.

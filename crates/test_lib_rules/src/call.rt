@@ -40,6 +40,9 @@ pub struct Call {
     pub b: u64,
     // A dump's phase bin.
     pub phase: u64,
+    // A tick's validity byte: its two low bits stand in that of every cell, but in a list those are the sampler's; its
+    // other bits stand in that of `cell` alone.
+    pub validity: u64,
 }
 
 // A shape, by document 01's letters.
@@ -115,8 +118,21 @@ fn cell_refusal(s: Shape, k: Call) -> u64 {
     }
 }
 
+// "Refusal 3 tests for 3C bytes"; "19 when a validity byte has another bit set, tested after 3 and before 4": that of
+// the call's cell, where there is such a cell.
+fn tick_refusal(s: Shape, k: Call) -> u64 {
+    if k.bytes != 3 * (s.cells % 32) {
+        return 3;
+    }
+    if (k.validity > 3) & (k.cell < s.cells) {
+        19
+    } else {
+        0
+    }
+}
+
 // The first refusal that the arguments alone give, 0 where there is none. "Setup and every call on a run test 1, then
-// 2, first"; "3: not 2C bytes"; a page has no other argument that they test.
+// 2, first"; a page has no other argument that they test.
 pub fn refusal(s: Shape, k: Call) -> u64 {
     if shape_wrong(s) {
         return 1;
@@ -126,7 +142,7 @@ pub fn refusal(s: Shape, k: Call) -> u64 {
     }
     let kind = k.kind;
     match kind {
-        TICK => { if k.bytes == 2 * (s.cells % 32) { 0 } else { 3 } }
+        TICK => tick_refusal(s, k),
         PAGE => 0,
         _ => cell_refusal(s, k),
     }

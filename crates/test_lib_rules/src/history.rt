@@ -1,5 +1,6 @@
-// The bytes that a sampler gives: a function of the seed, the cell, the stream (0 X, 1 Y) and the tick number. What a
-// tick adds is worked out from them for one lag, by document 01's "One tick". A negative number is in two's complement.
+// The bytes that a sampler gives: a function of the seed, the cell, the stream (0 X, 1 Y, 2 validity) and the tick
+// number. What a tick adds is worked out from them for one lag, by document 01's "One tick" and request 2026-06. A
+// negative number is in two's complement.
 use std::num::wrapping_add_u64;
 use std::num::wrapping_sub_u64;
 use test_lib_tools::random::draw;
@@ -13,40 +14,80 @@ pub const QUADRATURE: u64 = 1;
 
 pub const VALID: u64 = 2;
 
-// Sample 7 or -7 for 64 ticks; X turns by one phase every 16 ticks.
-fn extreme(stream: u64, tick: u64) -> u64 {
-    let sample = if tick / 64 % 2 == 0 { 7 } else { 9 };
-    let phase = if stream == 0 { tick / 16 % 16 } else { 0 };
-    sample % 16 + 16 * (phase % 16)
+// The stream of the validity bytes.
+const VALIDITY: u64 = 2;
+
+// Four turns of 32 ticks each, in which every cell is one further than the cell before it: any samples, any validity;
+// -8 throughout; any samples, three of four invalid; 7 or -8 with phase 0.
+fn turn_of(c: u64, tick: u64) -> u64 {
+    (tick / 32 % 4 + c % 16) % 4
 }
 
-// In turns of 32 ticks: any byte; 7 and -7 in step; three of four invalid; 7 or -7 with phase 0.
-pub fn byte(seed: u64, c: u64, stream: u64, tick: u64) -> u64 {
-    let x = draw(seed, 32 * (tick % 4294967296) + 2 * (c % 16) + stream % 2) % 1024;
-    match (tick / 32 % 4 + c % 16) % 4 {
-        0 => x % 256,
+// Sample -8; X turns by one phase every 12 ticks, so that what a tick adds goes from 128 to -128 and back.
+fn extreme(stream: u64, tick: u64) -> u64 {
+    let phase = if stream == 0 { tick / 12 % 16 } else { 0 };
+    8 + 16 * (phase % 16)
+}
+
+// The byte of a stream in a turn, from a drawn number.
+fn byte_of(turn: u64, stream: u64, tick: u64, x: u64) -> u64 {
+    match turn {
         1 => extreme(stream, tick),
-        2 => { if x < 768 { 8 + 16 * (x % 16) } else { x % 256 } }
-        _ => 7 + 2 * (x % 2),
+        3 => 7 + x % 2,
+        _ => x % 256,
     }
 }
 
-// The byte of some ticks ago: "Before tick 0 everything is invalid".
+// The validity byte in a turn: "bit 0 for X and bit 1 for Y, the other bits 0".
+fn validity_of(turn: u64, x: u64) -> u64 {
+    match turn {
+        0 => x % 4,
+        2 => (x % 4) & (x / 4 % 4),
+        _ => 3,
+    }
+}
+
+// The byte of a stream. The three of a cell come from one draw: neighbouring draws have low bits that go together.
+pub fn byte(seed: u64, c: u64, stream: u64, tick: u64) -> u64 {
+    let x = draw(seed, 16 * (tick % 4294967296) + c % 16) >> (8 + 8 * (stream % 4));
+    let turn = turn_of(c, tick);
+    if stream == VALIDITY {
+        validity_of(turn, x)
+    } else {
+        byte_of(turn, stream, tick, x)
+    }
+}
+
+// A sample with its phase and its validity: its byte, and 256 where its bit of the validity byte is set.
+pub fn sampled(byte: u64, validity: u64, stream: u64) -> u64 {
+    byte % 256 + 256 * ((validity >> (stream % 2)) % 2)
+}
+
+// The sample of a tick.
+fn sample(seed: u64, c: u64, stream: u64, tick: u64) -> u64 {
+    sampled(
+        byte(seed, c, stream, tick),
+        byte(seed, c, VALIDITY, tick),
+        stream,
+    )
+}
+
+// The sample of some ticks ago: "Before tick 0 everything is invalid".
 fn earlier(seed: u64, c: u64, stream: u64, tick: u64, delay: u64) -> u64 {
     if delay > tick {
-        8
+        0
     } else {
-        byte(seed, c, stream, tick - delay)
+        sample(seed, c, stream, tick - delay)
     }
 }
 
-// "Low four bits: sample, two's complement, -7 to 7; 8h marks it invalid".
 fn valid(b: u64) -> bool {
-    b % 16 != 8
+    b / 256 % 2 == 1
 }
 
+// "Low four bits: sample, two's complement", and "Samples run from -8 to 7".
 fn negative(b: u64) -> bool {
-    b % 16 > 8
+    b % 16 > 7
 }
 
 fn size(b: u64) -> u64 {
@@ -80,7 +121,7 @@ fn product(x: u64, y: u64, d: u64) -> u64 {
     if down { wrapping_sub_u64(0, p) } else { p }
 }
 
-// What two bytes add, "The product is valid when both samples are; otherwise it adds 0".
+// What two samples add, "The product is valid when both samples are; otherwise it adds 0".
 pub fn pair(x: u64, y: u64, what: u64) -> u64 {
     let both = valid(x) & valid(y);
     if !both {
@@ -110,17 +151,16 @@ pub fn stretch(seed: u64, c: u64, n: u64, k: u64, what: u64, a: u64, e: u64) -> 
     total
 }
 
-// The register entry of a byte by docs/LAYOUT.md: sample + 8, or 0 where it is invalid, and 16 × phase.
+// The register entry of a sample by docs/LAYOUT.md: 8 more in its low four bits, modulo 16, and otherwise as it is; and
+// so also the sample of an entry.
 pub fn entry(b: u64) -> u64 {
-    let v = b % 16;
-    let low = if v < 8 { v + 8 } else { v - 8 };
-    low % 16 + 16 * (b / 16 % 16)
+    (b % 16 + 8) % 16 + 16 * (b / 16 % 32)
 }
 
 // Entry d of a register of a run of t ticks, newest first; none is there before tick 0.
 pub fn registered(seed: u64, c: u64, stream: u64, t: u64, d: u64) -> u64 {
     if d < t {
-        entry(byte(seed, c, stream, t - d - 1))
+        entry(sample(seed, c, stream, t - d - 1))
     } else {
         0
     }

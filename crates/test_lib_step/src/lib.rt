@@ -62,10 +62,10 @@ pub fn record(m: &mut [u64], kind: u64, agrees: bool, refused: bool) {
     count(m, LIST, agrees, refused);
 }
 
-// Byte i of tick t: "an X byte and a Y byte for each cell in turn".
+// Byte i of tick t: "three bytes for each cell: X, Y, and a validity byte".
 fn sample(m: &[u64], i: usize) -> u8 {
     let j = (i % 64) as u64;
-    (byte(seed(m), j / 2, j % 2, time(m)) % 256) as u8
+    (byte(seed(m), j / 3, j % 3, time(m)) % 256) as u8
 }
 
 fn fill(m: &[u64], samples: &mut [u8]) {
@@ -78,9 +78,9 @@ fn fill(m: &[u64], samples: &mut [u8]) {
 
 // A tick or an integration.
 fn moves(mem: &mut [u64], m: &[u64], s: Shape, k: Call) -> u64 {
-    let mut samples = [0u8; 40];
+    let mut samples = [0u8; 51];
     fill(m, &mut samples);
-    ask::moves(s, mem, k, &samples)
+    ask::moves(s, mem, k, &mut samples)
 }
 
 // Is the frame or the page right; or, where the call is refused or is a dump that writes no frame, is no byte of the

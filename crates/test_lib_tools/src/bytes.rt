@@ -72,6 +72,10 @@ pub fn heads(kind: u64) -> usize {
     if kind == SPEED { 8 } else { 7 }
 }
 
+// The most that a tick adds to a sum in size, -8 × -8 × 2: "Every 98 in document 01 and in the speed frame becomes
+// 128".
+pub const PEAK: u64 = 128;
+
 // How many lag numbers a frame has.
 pub fn twice(n: u64) -> usize {
     if n <= 200 { (2 * n) as usize } else { 0 }

@@ -13,6 +13,7 @@ use test_lib_memory::map::BLOCK;
 use test_lib_memory::map::HELD;
 use test_lib_memory::map::LAST_COMMAND;
 use test_lib_memory::map::bin_row;
+use test_lib_memory::map::greatest;
 use test_lib_memory::map::start;
 use test_lib_row::held_to;
 use test_lib_rules::call::ACCEPTED;
@@ -165,6 +166,7 @@ fn dump_of(words: u64, command: u64, phase: u64) -> Call {
         a: command,
         b: 1,
         phase: phase,
+        validity: 0,
     }
 }
 
@@ -227,9 +229,9 @@ fn memory(pair: u64, command: u64) -> [u64; 384] {
     with_set(filled, test_lib_memory::map::row(2, HELD), held_size(pair))
 }
 
-// Word j of a row of so many ticks, all valid, with the sums 98 × ticks and -98 × ticks.
+// Word j of a row of so many ticks, all valid, with the sums 128 × ticks and -128 × ticks.
 fn set_word(ticks: u64, j: u64) -> u64 {
-    pick(j < 3, ticks, pick(j % 2 == 1, times(ticks, 196), 0))
+    pick(j < 3, ticks, pick(j % 2 == 1, greatest(ticks), 0))
 }
 
 // The row that starts with word `at` of the last cell.

@@ -222,7 +222,7 @@ pub fn shapes(t: Tally, i: u64) -> Tally {
 // The bytes lent: two cells' samples, a speed frame's, a page's, a frame's.
 fn lent(kind: u64) -> u64 {
     match kind {
-        TICK => 4,
+        TICK => 6,
         DUMP => 54,
         PAGE => 533,
         _ => 50,
@@ -240,6 +240,7 @@ pub fn plain(kind: u64, cell: u64, a: u64, b: u64, phase: u64) -> Call {
         a: a,
         b: b,
         phase: phase,
+        validity: 3,
     }
 }
 
@@ -273,6 +274,7 @@ fn with(kind: u64, command: u64, p: u64, v: u64) -> Call {
         a: pick(p == 1, v, k.a),
         b: pick(p == 2, v, pick(kind == 3, 0, 1)),
         phase: pick(p == 3, v, 0),
+        validity: k.validity,
     }
 }
 

@@ -29,11 +29,12 @@ fn call(bytes: u64) -> Call {
         a: SPEED_DUMP,
         b: 1,
         phase: 0,
+        validity: 0,
     }
 }
 
 // A row: a speed dump with so many bytes at tick t, where row `at` of the cell has so many ticks, all valid, and sums
-// of 98 × ticks in size.
+// of 128 × ticks in size.
 fn dumps(sum: Tally, held: u64, bytes: u64, at: u64, ticks: u64, t: u64, due: u64) -> Tally {
     let old = built(2, variant(held, 1, 2, 0), needed(shape(2)), 0, t);
     let mem = with_set(old, map::row(2, at), ticks);

@@ -10,7 +10,7 @@ use test_lib_tools::report::verdict;
 fn rows() -> Tally {
     let mut t: Tally = 0;
     let mut i: u64 = 0;
-    while i < 1408 {
+    while i < 1536 {
         t = order::refusals(t, i);
         i += 1;
     }

@@ -1,6 +1,6 @@
 // "Where several apply, the order stands after each group": each call with every choice of the defects that it may be
 // told of. The first in the papers' order is due. A dump comes three times, with another word damaged, and once more
-// with command 011; a page twice.
+// with command 011; a page twice; a tick twice, with its bytes wrong in another way.
 use lta_spec::Shape;
 use std::num::wrapping_add_u64;
 use test_lib_memory::base::BINS;
@@ -29,6 +29,7 @@ use test_lib_rules::call::SPEED_DUMP;
 use test_lib_rules::call::TICK;
 use test_lib_rules::call::needed;
 use test_lib_tools::report::Tally;
+use test_lib_tools::report::pick;
 use test_lib_tools::words::get;
 use test_lib_tools::words::put;
 
@@ -37,23 +38,27 @@ const LAGS: u64 = 2;
 // A dump with command 011, which has an order of its own.
 const SPEED: u64 = 7;
 
-// The orders of a tick, a dump, an integration, an emission, a reading, a forecast, a page and a speed dump, as
-// hexadecimal digits, the first lowest: "Then 11", "Order 5, 6, 7, 11", "Order 5, 11, then 8", and so on; "by 10 after
-// 1, 2 and 11"; "Refusal 6 no longer covers 011; 10 applies to it last".
+// The second group of ticks.
+const SHORT: u64 = 11;
+
+// The orders of a tick, a dump, an integration, an emission, a reading, a forecast, a page and a speed dump, two
+// hexadecimal digits to a number, the first lowest: "Then 11", and 19 "tested after 3 and before 4"; "Order 5, 6, 7,
+// 11", "Order 5, 11, then 8", and so on; "by 10 after 1, 2 and 11"; "Refusal 6 no longer covers 011; 10 applies to it
+// last".
 const ORDER: [u64; 8] = [
-    0xb4321,
-    0xb76521,
-    0x8b521,
-    0xa9b7521,
-    0xbc521,
-    0xb521,
-    0xab21,
-    0xab7521,
+    0x0b_04_13_03_02_01,
+    0x0b_07_06_05_02_01,
+    0x08_0b_05_02_01,
+    0x0a_09_0b_07_05_02_01,
+    0x0b_0c_05_02_01,
+    0x0b_05_02_01,
+    0x0a_0b_02_01,
+    0x0a_0b_07_05_02_01,
 ];
 
 // Number j of a call's order, 0 past its end.
 fn number(kind: u64, j: u64) -> u64 {
-    (get(&ORDER, kind) >> (4 * (j % 16))) % 16
+    (get(&ORDER, kind) >> (8 * (j % 8))) % 256
 }
 
 // Is number j of the order among the defects of the mask?
@@ -105,10 +110,11 @@ fn lent(kind: u64, mask: u64) -> Shape {
     }
 }
 
-// 3: a byte less. 10: a byte less than a frame, or than a page; a dump but 011 is lent no byte, and never told of it.
-fn bytes(kind: u64, mask: u64) -> u64 {
+// 3: a byte more, or in the second group of ticks a byte less. 10: a byte less than a frame, or than a page; a dump but
+// 011 is lent no byte, and never told of it.
+fn bytes(g: u64, kind: u64, mask: u64) -> u64 {
     match kind {
-        TICK => choose(kind, mask, 3, 3, 4),
+        TICK => choose(kind, mask, 3, pick(g == TICK, 7, 5), 6),
         DUMP => 0,
         PAGE => choose(kind, mask, 10, 532, 533),
         SPEED => choose(kind, mask, 10, 53, 54),
@@ -135,17 +141,24 @@ fn second(kind: u64, mask: u64) -> u64 {
     }
 }
 
-// 2: a word more. 5: cell C.
-fn call(kind: u64, mask: u64) -> Call {
+// 19: bit 7 in the last cell, both of whose samples are valid; in the second group of ticks bit 2 in the first cell,
+// neither of whose samples is, which a byte less does not cut off.
+fn validity(g: u64, kind: u64, mask: u64) -> u64 {
+    choose(kind, mask, 19, pick(g == TICK, 0x83, 0x04), 3)
+}
+
+// 2: a word more. 5: cell C. The second group of ticks is about the first cell, all others about the last.
+fn call(g: u64, kind: u64, mask: u64) -> Call {
     let words = needed(shape(LAGS)) % 4294967296;
     Call {
         kind: if kind == SPEED { DUMP } else { kind },
         words: choose(kind, mask, 2, words + 1, words),
-        bytes: bytes(kind, mask),
-        cell: choose(kind, mask, 5, 2, 1),
+        bytes: bytes(g, kind, mask),
+        cell: choose(kind, mask, 5, 2, pick(g == SHORT, 0, 1)),
         a: argument(kind, mask),
         b: second(kind, mask),
         phase: 0,
+        validity: validity(g, kind, mask),
     }
 }
 
@@ -154,6 +167,7 @@ fn kind_of(g: u64) -> u64 {
     match g {
         8 | 9 => DUMP,
         10 => PAGE,
+        SHORT => TICK,
         _ => g,
     }
 }
@@ -162,7 +176,7 @@ fn kind_of(g: u64) -> u64 {
 // ticks of a loss, the current block, the last command. A speed dump is told of Held, which it leaves as it is.
 fn damaged(g: u64) -> u64 {
     match g {
-        TICK => register(LAGS, 1),
+        TICK | SHORT => register(LAGS, 1),
         INTEGRATE | SPEED => HELD_STAMP,
         EMIT => wrapping_add_u64(bin(LAGS, BINS), 1),
         READING => row(LAGS, loss(6)),
@@ -203,11 +217,11 @@ fn due(told: u64, s: Shape, old: [u64; 384], k: Call) -> u64 {
 
 // Row r: group r div 128, mask r mod 128.
 pub fn refusals(t: Tally, r: u64) -> Tally {
-    let g = r / 128 % 11;
+    let g = r / 128 % 12;
     let kind = kind_of(g);
     let mask = r % 128;
     let old = memory(kind, mask, damaged(g), value(g));
-    let k = call(kind, mask);
+    let k = call(g, kind, mask);
     let s = lent(kind, mask);
     held_to(t, s, old, k, due(first(kind, mask), s, old, k))
 }

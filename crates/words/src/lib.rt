@@ -1,5 +1,6 @@
 // Words of a lent slice: a row is added to another and cleared, a part is cleared, and the tests of refusal 11 on rows
 // and on shift registers.
+use lta_spec::PEAK;
 ghost use mathlib.Core.Path.{_≡_};
 ghost use mathlib.Core.Bool.{true};
 ghost use Prim.Native.Nat.{_+_, _*_, _<_, _≤_};
@@ -81,7 +82,7 @@ fn within(s: &[u64], at: usize, n: usize, b: u64) -> bool
     all_le(s, at, n, b)
 }
 
-// Is the row of n lags at `at` within its limits: ticks, counts, and sums of at most 196 a tick?
+// Is the row of n lags at `at` within its limits: ticks, counts, and stored sums of at most twice the peak a tick?
 pub fn row_ok(s: &[u64], at: usize, n: usize, limit: u64) -> bool
     requires { ⌜ (at + rowWords n ≤ length (now s)) × (limit ≤ runLimit) × (n ≤ 128) ⌝ }
     ensures { λ r. ⌜ r ≡ rowOk limit (part at (rowWords n) (now (s .entry))) ⌝ }
@@ -91,13 +92,13 @@ pub fn row_ok(s: &[u64], at: usize, n: usize, limit: u64) -> bool
         return false;
     }
     let few = (s[at + 1] <= ticks) & (s[at + 2] <= ticks);
-    few & within(s, at + 3, 2 * n, 196 * ticks)
+    few & within(s, at + 3, 2 * n, 2 * PEAK as u64 * ticks)
 }
 
-// Is each of the n words at `at` an entry that a sampler byte gives?
+// Is each of the n words at `at` an entry that a sampler byte and its validity bit give?
 pub fn entries_ok(s: &[u64], at: usize, n: usize) -> bool
     requires { ⌜ at + n ≤ length (now s) ⌝ }
     ensures { λ r. ⌜ r ≡ every entryOk (part at n (now (s .entry))) ⌝ }
 {
-    within(s, at, n, 255)
+    within(s, at, n, 511)
 }

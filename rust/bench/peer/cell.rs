@@ -154,10 +154,10 @@ impl Cell<'_> {
     }
 
     /// Answers whether the cell is held off.
-    pub fn tick(&mut self, x: u8, y: u8) -> bool {
+    pub fn tick(&mut self, x: u8, y: u8, validity: u8) -> bool {
         let layout = self.layout;
-        shift(&mut self.words[layout.x()], x);
-        shift(&mut self.words[layout.y()], y);
+        shift(&mut self.words[layout.x()], x, validity & 1 != 0);
+        shift(&mut self.words[layout.y()], y, validity & 2 != 0);
         let full = self.words[layout.open().start] == OPEN_LIMIT;
         let row = if full { layout.loss(5) } else { layout.open() };
         let parts = self.words.get_disjoint_mut([row, layout.x(), layout.y()]);

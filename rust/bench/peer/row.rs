@@ -1,26 +1,29 @@
-//! Rows of sums and the shift registers. A row is ticks, edge count, centre count, then I and Q of each lag.
+//! Rows of sums and the shift registers. A row is ticks, edge count, centre count, then I and Q of each lag. A register
+//! entry is the four bits of the sample, then a bit that is set where the sample is valid, then the phase.
 use super::PEAK;
 
-/// A sampler byte with an invalid sample.
-pub const INVALID: i64 = 8;
+const VALID: i64 = 16;
+const ENTRIES: i64 = 512;
 
 const WEIGHT: [i64; 16] = [2, 2, 1, 1, 0, -1, -1, -2, -2, -2, -1, -1, 0, 1, 1, 2];
 
-/// The sample of a register entry by its low four bits; 0 where it is invalid.
-const SAMPLE: [i64; 16] = [0, 1, 2, 3, 4, 5, 6, 7, 0, -7, -6, -5, -4, -3, -2, -1];
+/// The sample of a register entry by its low five bits; 0 where it is invalid.
+const SAMPLE: [i64; 32] =
+    [0, 0, 0, 0, 0, 0, 0, 0, 0, 0, 0, 0, 0, 0, 0, 0, 0, 1, 2, 3, 4, 5, 6, 7, -8, -7, -6, -5, -4, -3, -2, -1];
 
 fn sample(entry: i64) -> i64 {
-    SAMPLE[(entry & 15) as usize]
+    SAMPLE[(entry & 31) as usize]
 }
 
 fn both_valid(x: i64, y: i64) -> bool {
-    x & 15 != INVALID && y & 15 != INVALID
+    x & y & VALID != 0
 }
 
-pub fn shift(register: &mut [i64], byte: u8) {
+pub fn shift(register: &mut [i64], byte: u8, valid: bool) {
     let last = register.len() - 1;
     register.copy_within(..last, 1);
-    register[0] = i64::from(byte);
+    let byte = i64::from(byte);
+    register[0] = byte % 16 + VALID * i64::from(valid) + 32 * (byte / 16);
 }
 
 /// Adds to a row what the tick whose entries stand newest in the registers adds.
@@ -34,7 +37,7 @@ pub fn add_tick(row: &mut [i64], x: &[i64], y: &[i64]) {
     for (k, pair) in row[3..].chunks_exact_mut(2).enumerate() {
         let (a, b) = entries(k);
         let product = sample(a) * sample(b);
-        let d = ((a >> 4) - (b >> 4)) & 15;
+        let d = ((a >> 5) - (b >> 5)) & 15;
         pair[0] += product * WEIGHT[d as usize];
         pair[1] += product * WEIGHT[(d as usize + 12) % 16];
     }
@@ -49,7 +52,7 @@ pub fn row_ok(row: &[i64], limit: i64) -> bool {
 }
 
 pub fn register_ok(register: &[i64]) -> bool {
-    register.iter().all(|word| (0..256).contains(word))
+    register.iter().all(|word| (0..ENTRIES).contains(word))
 }
 
 /// All of one row joins another, and the one is empty.

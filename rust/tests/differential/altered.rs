@@ -1,6 +1,6 @@
 //! Altered work memory: words changed to values near their limits. Refusal 11 is given exactly by the clauses of
-//! document 01 and requests 2026-01, 2026-03 and 2026-04 on the parts that the call tests, and what is bad elsewhere is
-//! kept as it is.
+//! document 01 and requests 2026-01, 2026-03, 2026-04 and 2026-06 on the parts that the call tests, and what is bad
+//! elsewhere is kept as it is.
 use crate::call::{Call, Reply, Shape};
 use crate::damage;
 use crate::driver::{fresh, perform};
@@ -29,7 +29,7 @@ pub fn near_limit(random: &mut Random, kind: Kind, mem: &[u64], shape: &Shape) -
         Kind::Block => random.pick(&[0, blocks - 1, blocks - 1, blocks, blocks + 1, far]),
         Kind::LastCommand => random.pick(&[0, 1, 2, 3, 4, 5, 6, 8, far]),
         Kind::State => random.pick(&[0, 1, 1, 2, 2, 3, far]),
-        Kind::Entry => random.pick(&[0, 8, 255, 256, far]),
+        Kind::Entry => random.pick(&[0, 8, 255, 256, 511, 512, far]),
         Kind::Ticks(limit) => {
             let room = limit.saturating_sub(random.below(12));
             random.pick(&[0, 1, limit - 1, limit, limit + 1, room, far])
@@ -122,7 +122,7 @@ fn altered_memory() {
     for name in ["tick", "dump", "integrate", "emit", "reading", "forecast", "page"] {
         tally.met(name, &["refusal 11"]);
     }
-    tally.met("tick", &["accepted", "held off", "refusal 4"]);
+    tally.met("tick", &["accepted", "held off", "refusal 3", "refusal 19", "refusal 4"]);
     tally.met("integrate", &["answer 0", "answer 3", "answer 4", "answer 5", "refusal 8"]);
     tally.met("dump", &["answer 0", "answer 1", "answer 2", "answer 7", "a frame", "refusal 10"]);
     tally.met("emit", &["accepted", "refusal 9"]);
@@ -142,7 +142,7 @@ fn a_loss_at_its_limit() {
     let kinds = layout::kinds(shape);
     let dump = |command| Call::Dump { cell: 0, command, bank: 0, phase: 0, room: 0 };
     let integrate = Call::Integrate { cell: 0 };
-    let tick = Call::Tick { samples: vec![0; 2] };
+    let tick = Call::Tick { samples: vec![0; 3] };
     // The call, the ticks of Open, Held and bin, Held's flag and command, the bin's state, and the loss with its part.
     let rows = [
         (&dump(0b100), [7, 0, 0], [0, 0, 0], 1, 7),
@@ -173,7 +173,7 @@ fn a_loss_at_its_limit() {
 fn accepting(shape: &Shape) -> Vec<u64> {
     let mut mem = fresh(shape);
     let dump = Call::Dump { cell: 0, command: 0b010, bank: 0, phase: 0, room: 0 };
-    let tick = Call::Tick { samples: vec![0x07; 4] };
+    let tick = Call::Tick { samples: vec![0x03; 6] };
     for call in [&tick, &dump, &Call::Integrate { cell: 0 }, &tick, &dump, &tick] {
         perform(&shape.numbers(), &mut mem, call);
     }
@@ -198,7 +198,7 @@ fn with_word(shape: &Shape, at: usize, word: u64, bad: bool) {
     let (cell, bank, bin, lag, loss) = (0, 0, 0, 0, 1);
     let emit = Call::Emit { cell, bank, bin, room: shape.frame_length() };
     let reading = Call::Reading { cell, lag, loss, room: [2, 3] };
-    let tick = Call::Tick { samples: vec![0x05; 4] };
+    let tick = Call::Tick { samples: vec![0x02; 6] };
     let page = Call::Page { room: shape.page_length() };
     for call in [tick, reading, Call::Forecast { cell }, page, emit, Call::Integrate { cell }] {
         let reply = perform(&shape.numbers(), &mut sound, &call);

@@ -88,7 +88,7 @@ fn a_first_dump_uses_the_start_block() {
 
 /// The frame of a tick, which goes with 010 by its bin or with 011 at once.
 fn frame_of_a_tick(three: &mut Three, command: u64, phase: u64, bin: u64) -> Reply {
-    three.perform(&Call::Tick { samples: vec![0x07; 2] });
+    three.perform(&Call::Tick { samples: vec![0x03; 3] });
     let dumped = three.perform(&Call::Dump { cell: 0, command, bank: 1, phase, room: 54 });
     if command == 0b011 {
         return dumped;

@@ -11,7 +11,7 @@ fn row_bad(row: &Row, limit: u64) -> bool {
 }
 
 fn registers_bad(cell: &Cell) -> bool {
-    cell.x.iter().chain(&cell.y).any(|byte| *byte > 255)
+    cell.x.iter().chain(&cell.y).any(|entry| *entry > 511)
 }
 
 fn open_bad(cell: &Cell, t: u64) -> bool {

@@ -1,5 +1,5 @@
-//! The frame by document 01 and the speed frame by request 2026-04: their bytes from fields and lags, and what reader
-//! and normalising call say of bytes.
+//! The frame by document 01 and the speed frame by requests 2026-04 and 2026-06: their bytes from fields and lags, and
+//! what reader and normalising call say of bytes.
 use crate::call::Shape;
 use crate::rules::{bad_lags, BIN_LIMIT, PEAK};
 use crate::signed::Row;

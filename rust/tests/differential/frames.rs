@@ -4,7 +4,7 @@ use lta::ffi;
 use crate::driver::outcome;
 use crate::frame::{self, Fields};
 use crate::random::Random;
-use crate::rules::{bad_lags, BIN_LIMIT};
+use crate::rules::{bad_lags, BIN_LIMIT, PEAK};
 use crate::tally::Tally;
 
 const FRAMES: u64 = 150_000;
@@ -48,7 +48,7 @@ fn right_fields(random: &mut Random) -> Fields {
 }
 
 fn right_numbers(random: &mut Random, lags: u64, ticks: u32) -> Vec<i32> {
-    let most = 98 * i64::from(ticks);
+    let most = PEAK as i64 * i64::from(ticks);
     let number = |random: &mut Random| random.within(0, 2 * most as u64) as i64 - most;
     (0..2 * lags)
         .map(|_| {
@@ -69,7 +69,7 @@ fn break_field(random: &mut Random, fields: &mut Fields) {
 
 fn break_number(random: &mut Random, numbers: &mut [i32], ticks: u32) {
     let at = random.below(numbers.len() as u64) as usize;
-    let most = (98 * i64::from(ticks) + 1) as i32;
+    let most = (PEAK as i64 * i64::from(ticks) + 1) as i32;
     let any = random.next() as i32;
     numbers[at] = random.pick(&[most, -most, i32::MIN, i32::MAX, any]);
 }

@@ -70,7 +70,7 @@ fn with_times(random: &mut Random, shape: Shape) -> Shape {
 #[derive(Clone, Copy)]
 enum Sky {
     Any,
-    /// Samples of 7 and -7 in phases that give the greatest weights.
+    /// Samples of -8 and 7 in phases that give the greatest weights, all valid.
     Loud,
     /// Mostly invalid samples.
     Broken,
@@ -103,24 +103,35 @@ impl Generator {
         Generator { random, shape, sky, commands }
     }
 
-    fn sample(&mut self) -> u8 {
-        let byte = self.random.byte();
-        match self.sky {
-            Sky::Any => byte,
-            Sky::Loud => self.random.pick(&[0x07, 0x09, 0x17, 0x89]),
-            Sky::Broken if byte & 0xc0 == 0 => byte << 2,
-            Sky::Broken => byte & 0xf0 | 8,
-        }
+    /// X, Y and validity byte of one cell.
+    fn sampled(&mut self) -> [u8; 3] {
+        let [x, y] = [0, 1].map(|_| match self.sky {
+            Sky::Loud => self.random.pick(&[0x08, 0x18, 0x88, 0x07]),
+            Sky::Any | Sky::Broken => self.random.byte(),
+        });
+        let any = self.random.below(4) as u8;
+        let validity = match self.sky {
+            Sky::Any => self.random.pick(&[0b11, 0b11, any]),
+            Sky::Loud => 0b11,
+            Sky::Broken => self.random.pick(&[0, 0, 0, any]),
+        };
+        [x, y, validity]
     }
 
+    /// The bytes of a tick, one time in 40 too few or too many, and one time in 40 with another bit in a validity byte.
     fn samples(&mut self) -> Vec<u8> {
-        let right = 2 * self.shape.cells as usize;
-        let count = if self.random.once_in(40) {
-            self.random.pick(&[0, 1, right - 1, right + 1, right + 2])
-        } else {
-            right
-        };
-        (0..count).map(|_| self.sample()).collect()
+        let mut samples: Vec<u8> = (0..self.shape.cells).flat_map(|_| self.sampled()).collect();
+        if self.random.once_in(40) {
+            let cell = self.random.below(self.shape.cells) as usize;
+            let (lone, any) = (1 << self.random.within(2, 7), self.random.byte());
+            samples[3 * cell + 2] = self.random.pick(&[lone, lone | 0b11, any | 0b100]);
+        }
+        if self.random.once_in(40) {
+            let right = samples.len();
+            let any = self.random.byte();
+            samples.resize(self.random.pick(&[0, 1, 2 * right / 3, right - 1, right + 1, right + 3]), any);
+        }
+        samples
     }
 
     /// A number below the limit, or one time in 40 one that is not.

@@ -44,12 +44,12 @@ fn walk_row(walk: &mut impl Walk, row: &mut Row, limit: u64) {
     }
 }
 
-/// An entry is (sample + 8) + 16 × phase, and 0 for sample + 8 where the byte has 8h: its bit 3 the other way round.
+/// The word of an entry has 8 added to the low four bits of the sampler byte, modulo 16: bit 3 the other way round.
 fn walk_register(walk: &mut impl Walk, register: &mut [u64]) {
-    for byte in register {
-        let mut entry = *byte ^ 8;
-        walk.word(&mut entry, Kind::Entry);
-        *byte = entry ^ 8;
+    for entry in register {
+        let mut word = *entry ^ 8;
+        walk.word(&mut word, Kind::Entry);
+        *entry = word ^ 8;
     }
 }
 

@@ -42,7 +42,7 @@ impl Three {
     pub fn ticks(&mut self, random: &mut Random, count: u64) -> u64 {
         let mut held_off = 0;
         for _ in 0..count {
-            let samples = random.bytes(2 * self.model.shape.cells as usize);
+            let samples = random.samples(self.model.shape.cells);
             match self.perform(&Call::Tick { samples }) {
                 Reply::Number(cells) => held_off += cells,
                 other => panic!("a tick: {other:?}"),
@@ -98,7 +98,7 @@ fn holdoff_with_real_ticks() {
     let Reply::Frame(bytes) = three.dump(1, 0b011) else {
         panic!("no frame of a full Open");
     };
-    assert_eq!([2, 5, 6, 7].map(|at| words_of(&bytes)[at]), [524_288, 5, 100, 51_380_224]);
+    assert_eq!([2, 5, 6, 7].map(|at| words_of(&bytes)[at]), [524_288, 5, 100, 67_108_864]);
     assert_eq!(three.forecasts(), [524_268, 524_288].map(Reply::Number));
     assert_eq!(three.ticks(&mut random, 1), 0);
     three.compare();

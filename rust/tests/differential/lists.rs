@@ -152,7 +152,7 @@ fn check_shapes(shapes: &[Shape]) {
 
 /// Everything has happened that can in a list without limits reached or memory altered.
 fn check_outcomes(tally: &Tally) {
-    tally.met("tick", &["accepted", "refusal 1", "refusal 2", "refusal 3"]);
+    tally.met("tick", &["accepted", "refusal 1", "refusal 2", "refusal 3", "refusal 19"]);
     tally.met("dump", &["answer 0", "answer 1", "answer 2", "answer 7", "a frame", "a frame, room left"]);
     tally.met("dump", &["refusal 1", "refusal 2", "refusal 5", "refusal 6", "refusal 7", "refusal 10"]);
     tally.met("integrate", &["answer 0", "answer 3", "answer 4"]);

@@ -256,19 +256,21 @@ impl Machine {
         Reply::Page(page::placed(&lines, totals))
     }
 
-    /// The sampler byte of so many ticks before tick t, if the run had begun.
-    fn byte(&self, t: u64, ago: u64, at: usize) -> Option<u8> {
-        Some(self.ticks[t.checked_sub(ago)? as usize][at])
+    /// The byte of a cell's X, stream 0, or Y, stream 1, so many ticks before tick t, if the run had begun; and whether
+    /// its sample is valid.
+    fn sampled(&self, cell: usize, stream: usize, t: u64, ago: u64) -> Option<(u8, bool)> {
+        let bytes = &self.ticks[t.checked_sub(ago)? as usize][3 * cell..];
+        Some((bytes[stream], bytes[2] >> stream & 1 == 1))
     }
 
     /// The product of lag k at tick t with what it adds to I and Q; none where it is not valid.
     fn product(&self, cell: usize, t: u64, k: u64) -> Option<[i64; 2]> {
-        let x = self.byte(t, k.div_ceil(2), 2 * cell)?;
-        let y = self.byte(t, self.shape.lags / 2 - k / 2, 2 * cell + 1)?;
-        let sample = |byte: u8| i64::from(((byte << 4) as i8) >> 4);
-        if sample(x) == -8 || sample(y) == -8 {
+        let (x, x_valid) = self.sampled(cell, 0, t, k.div_ceil(2))?;
+        let (y, y_valid) = self.sampled(cell, 1, t, self.shape.lags / 2 - k / 2)?;
+        if !(x_valid && y_valid) {
             return None;
         }
+        let sample = |byte: u8| i64::from(((byte << 4) as i8) >> 4);
         let product = sample(x) * sample(y);
         Some(weights(i32::from(x >> 4) - i32::from(y >> 4)).map(|weight| product * weight))
     }
@@ -290,8 +292,11 @@ impl Machine {
         row
     }
 
-    fn register(&self, at: usize) -> Vec<u64> {
-        let last = |ago: u64| self.byte(self.t().checked_sub(1)?, ago, at).map(u64::from);
+    fn register(&self, cell: usize, stream: usize) -> Vec<u64> {
+        let last = |ago: u64| {
+            let (byte, valid) = self.sampled(cell, stream, self.t().checked_sub(1)?, ago)?;
+            Some(u64::from(byte) + 256 * u64::from(valid))
+        };
         (0..=self.shape.lags / 2).map(|ago| last(ago).unwrap_or(signed::INVALID)).collect()
     }
 
@@ -310,8 +315,8 @@ impl Machine {
                 open: self.numbers(c, &cell.open.set),
                 held: self.summed_held(c),
                 losses: std::array::from_fn(|i| self.numbers(c, &cell.losses[i])),
-                x: self.register(2 * c),
-                y: self.register(2 * c + 1),
+                x: self.register(c, 0),
+                y: self.register(c, 1),
                 bins: cell.bins.iter().map(bin).collect(),
             }
         });

@@ -1,19 +1,22 @@
-//! The engine beside models of document 01 with the requests up to 2026-04 that share no code with it.
+//! The engine beside models of document 01 with the requests up to 2026-06 that share no code with it.
 //!
 //! `machine` is their plain machine: sets of tick numbers, and every number worked out from the bytes of the
 //! ticks when it is asked for. `signed` keeps signed sums instead, which is fast enough for long lists; short lists
 //! hold it against the machine. `damage` says when work memory is refused by 11, `layout` which words a run has by
 //! docs/LAYOUT.md, `frame` what the calls on frames give, `page` how losses are printed. The tests are in `sizes`,
-//! `lists`, `blocks`, `limits`, `forecast`, `pages`, `pages_refused`, `altered`, `speed`, `speed_refused` and `frames`.
+//! `lists`, `validity`, `greatest`, `blocks`, `limits`, `forecast`, `pages`, `pages_refused`, `altered`, `speed`,
+//! `speed_refused`, `frames` and `earlier`.
 mod altered;
 mod blocks;
 mod call;
 mod damage;
 mod driver;
+mod earlier;
 mod forecast;
 mod frame;
 mod frames;
 mod generator;
+mod greatest;
 mod layout;
 mod limits;
 mod lists;
@@ -28,3 +31,4 @@ mod sizes;
 mod speed;
 mod speed_refused;
 mod tally;
+mod validity;

@@ -118,7 +118,7 @@ fn six_together() {
 }
 
 fn others_accept(shape: &Shape, mem: &mut [u64], cell: u64) {
-    let samples = vec![0; 2 * shape.cells as usize];
+    let samples = vec![0; 3 * shape.cells as usize];
     let dump = |command| Call::Dump { cell, command, bank: 0, phase: 0, room: shape.speed_length() };
     let emit = Call::Emit { cell, bank: 0, bin: 0, room: shape.frame_length() };
     let reading = |loss| Call::Reading { cell, lag: 0, loss, room: [2, 3] };

@@ -41,6 +41,11 @@ impl Random {
         (0..count).map(|_| self.byte()).collect()
     }
 
+    /// The bytes of a tick of so many cells: any samples and phases, three in four of the samples valid.
+    pub fn samples(&mut self, cells: u64) -> Vec<u8> {
+        (0..cells).flat_map(|_| [self.byte(), self.byte(), (self.byte() | self.byte()) % 4]).collect()
+    }
+
     /// A number far outside of what any argument may be.
     pub fn extreme(&mut self) -> u64 {
         let near = self.below(3);

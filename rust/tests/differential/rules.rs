@@ -4,7 +4,8 @@ use crate::call::{Call, Shape};
 pub const OPEN_LIMIT: u64 = 524_288;
 pub const BIN_LIMIT: u64 = 16_777_215;
 pub const RUN_LIMIT: u64 = 2_147_483_648;
-pub const PEAK: u64 = 98;
+/// What a lag adds in one tick at most: -8 × -8 × 2.
+pub const PEAK: u64 = 128;
 
 pub const FREE: u64 = 0;
 pub const FILLING: u64 = 1;
@@ -63,11 +64,12 @@ fn breaks_bin_rule(shape: &Shape, phase: u64) -> bool {
     (u128::from(phase) + 1) * u128::from(shape.blocks) > u128::from(shape.bins)
 }
 
-/// The first refusal of the call's arguments alone, 3 and 5 to 12 without 8 to 11.
+/// The first refusal of the call's arguments alone: 3, 19 and 5 to 12 without 8 to 11.
 pub fn argument_refusal(shape: &Shape, call: &Call) -> Option<u32> {
     let no_cell = |cell: u64| cell >= shape.cells;
     match *call {
-        Call::Tick { ref samples } => (samples.len() as u64 != 2 * shape.cells).then_some(3),
+        Call::Tick { ref samples } if samples.len() as u64 != 3 * shape.cells => Some(3),
+        Call::Tick { ref samples } => samples.chunks_exact(3).any(|bytes| bytes[2] > 0b11).then_some(19),
         Call::Dump { cell, .. } if no_cell(cell) => Some(5),
         Call::Dump { command: 5 | 6 | 8.., .. } => Some(6),
         Call::Dump { bank, phase, .. } => (bank > 1 || breaks_bin_rule(shape, phase)).then_some(7),

@@ -11,7 +11,10 @@ use crate::rules::{
 /// The weight of a product by the difference of its phases, in sixteenths of a turn.
 const WEIGHT: [i64; 16] = [2, 2, 1, 1, 0, -1, -1, -2, -2, -2, -1, -1, 0, 1, 1, 2];
 
-/// A sampler byte with an invalid sample: what stands in the registers before tick 0.
+/// The bit of a register entry above its sampler byte: the sample is valid.
+const VALID: u64 = 0x100;
+
+/// A register entry with an invalid sample: what stands there before tick 0.
 pub const INVALID: u64 = 0x08;
 
 /// The numbers of a place.
@@ -51,7 +54,7 @@ pub struct Cell {
     pub open: Row,
     pub held: Held,
     pub losses: [Row; 6],
-    /// Sampler bytes, newest first.
+    /// Sampler bytes with their validity, newest first.
     pub x: Vec<u64>,
     pub y: Vec<u64>,
     pub bins: Vec<Bin>,
@@ -87,7 +90,7 @@ impl Row {
             let (Some(p), Some(q)) = (sample(a), sample(b)) else {
                 continue;
             };
-            let d = (a / 16 + 16 - b / 16) as usize % 16;
+            let d = (phase(a) + 16 - phase(b)) % 16;
             pair[0] += p * q * WEIGHT[d];
             pair[1] += p * q * WEIGHT[(d + 12) % 16];
             self.edge += u64::from(k == 0);
@@ -96,18 +99,22 @@ impl Row {
     }
 }
 
-/// The sample of a sampler byte, if it is valid.
-fn sample(byte: u64) -> Option<i64> {
-    match byte % 16 {
-        8 => None,
-        low @ 0..=7 => Some(low as i64),
-        low => Some(low as i64 - 16),
-    }
+/// The sample of a register entry, if it is valid.
+fn sample(entry: u64) -> Option<i64> {
+    let sample = match entry % 16 {
+        low @ 0..=7 => low as i64,
+        low => low as i64 - 16,
+    };
+    (entry & VALID != 0).then_some(sample)
 }
 
-fn shift(register: &mut [u64], byte: u8) {
+fn phase(entry: u64) -> usize {
+    (entry / 16 % 16) as usize
+}
+
+fn shift(register: &mut [u64], byte: u8, valid: bool) {
     register.rotate_right(1);
-    register[0] = u64::from(byte);
+    register[0] = u64::from(byte) + if valid { VALID } else { 0 };
 }
 
 impl Cell {
@@ -129,9 +136,9 @@ impl Cell {
     }
 
     /// Answers whether the cell is held off.
-    fn tick(&mut self, x: u8, y: u8) -> bool {
-        shift(&mut self.x, x);
-        shift(&mut self.y, y);
+    fn tick(&mut self, x: u8, y: u8, validity: u8) -> bool {
+        shift(&mut self.x, x, validity & 0b01 != 0);
+        shift(&mut self.y, y, validity & 0b10 != 0);
         let full = self.open.ticks >= OPEN_LIMIT;
         let row = if full { &mut self.losses[5] } else { &mut self.open };
         row.add_tick(&self.x, &self.y);
@@ -240,8 +247,9 @@ impl Run {
         match *call {
             Call::Tick { ref samples } => {
                 self.t += 1;
-                let cells = self.cells.iter_mut().zip(samples.chunks_exact(2));
-                Reply::Number(cells.map(|(cell, xy)| u64::from(cell.tick(xy[0], xy[1]))).sum())
+                let cells = self.cells.iter_mut().zip(samples.chunks_exact(3));
+                let held_off = |(cell, b): (&mut Cell, &[u8])| u64::from(cell.tick(b[0], b[1], b[2]));
+                Reply::Number(cells.map(held_off).sum())
             }
             Call::Dump { cell, command: SPEED, bank, phase, .. } => self.speed_dump(cell, bank, phase),
             Call::Dump { cell, command, bank, phase, .. } => {

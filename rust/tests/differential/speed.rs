@@ -18,7 +18,7 @@ fn sent(three: &mut Three, bank: u64, phase: u64) -> Vec<u32> {
     }
 }
 
-fn tick(three: &mut Three, samples: [u8; 2]) {
+fn tick(three: &mut Three, samples: [u8; 3]) {
     assert_eq!(three.perform(&Call::Tick { samples: samples.to_vec() }), Reply::Number(0));
 }
 
@@ -27,14 +27,14 @@ fn tick(three: &mut Three, samples: [u8; 2]) {
 #[test]
 fn frames_written_down() {
     let mut three = Three::new(SHAPE);
-    for samples in [[0x02, 0x03], [0x01, 0x0f], [0x08, 0x02]] {
+    for samples in [[0x02, 0x03, 3], [0x01, 0x0f, 3], [0x08, 0x02, 2]] {
         tick(&mut three, samples);
     }
-    let example = [3, 0x8001_0000, 3, 2, 1, 0, 0, 294, 6, 0, 10, 0, 0x8001_013f];
+    let example = [3, 0x8001_0000, 3, 2, 1, 0, 0, 384, 6, 0, 10, 0, 0x8001_0199];
     assert_eq!(sent(&mut three, 1, 1), example);
     assert_eq!(sent(&mut three, 0, 0), [3, 0, 0, 0, 0, 0, 3, 0, 0, 0, 0, 0, 6]);
-    (0..6).for_each(|_| tick(&mut three, [0x07, 0x07]));
-    assert_eq!(sent(&mut three, 0, 1), [3, 0x1_0000, 6, 5, 6, 0, 3, 588, 518, 0, 490, 0, 67_155]);
+    (0..6).for_each(|_| tick(&mut three, [0x07, 0x07, 3]));
+    assert_eq!(sent(&mut three, 0, 1), [3, 0x1_0000, 6, 5, 6, 0, 3, 768, 518, 0, 490, 0, 67_335]);
     assert_eq!(sent(&mut three, 0, 0), [3, 0, 0, 0, 0, 2, 1, 0, 0, 0, 0, 0, 6]);
     three.compare();
 }

@@ -108,6 +108,28 @@ fn the_engine_takes_those_commands_and_no_other() {
     assert_eq!(moved, [("KEPT".to_string(), 0), ("IDLE".to_string(), 7)]);
 }
 
+/// A validity byte may have the bits that the header names and no other, and each goes with its sample: at lag 0 X of
+/// a tick is multiplied by Y of the tick before.
+#[test]
+fn bits_of_a_validity_byte() {
+    let shape = Shape { cells: 1, lags: 2, ..SHAPE };
+    let bits = enumerated(&header(), "lta_validity");
+    let [x, y] = ["X", "Y"].map(|name| bits.iter().find(|bit| bit.0 == name).expect("a bit").1 as u8);
+    for byte in 0..=u8::MAX {
+        let expected = if byte & !(x | y) == 0 { Ok(0) } else { Err(Refusal::BadValidity) };
+        assert_eq!(Run::new(shape).unwrap().tick(&[0, 0, byte]), expected, "validity byte {byte}");
+    }
+    let edge = |bytes: [u8; 2]| {
+        let mut run = Run::new(shape).unwrap();
+        for byte in bytes {
+            run.tick(&[1, 1, byte]).unwrap();
+        }
+        run.dump(0, Command::Discard, 0, 0).unwrap();
+        run.reading(0, 0, Loss::Ordered).unwrap().edge
+    };
+    assert_eq!([[y, x], [x, y]].map(edge), [1, 0]);
+}
+
 #[test]
 fn places_of_shapes_and_headers() {
     indexed("lta_shape", "LTA_SHAPE_LEN", &SHAPE.numbers(), &fields_of(SHAPE));
@@ -134,7 +156,7 @@ fn places_of_shapes_and_headers() {
 fn places_of_a_reading() {
     let shape = Shape { cells: 1, lags: 2, bins: 1, blocks: 1, start: 0, rate: 4, second: 0 };
     let mut run = Run::new(shape).unwrap();
-    for samples in [[0x02, 0x03], [0x31, 0x07], [0x08, 0x02], [0x05, 0x05], [0x08, 0x08]] {
+    for samples in [[0x02, 0x03, 3], [0x31, 0x07, 3], [0x01, 0x02, 2], [0x05, 0x05, 3], [0x01, 0x02, 0]] {
         run.tick(&samples).unwrap();
     }
     run.dump(0, Command::Discard, 0, 0).unwrap();
@@ -170,7 +192,7 @@ fn lengths_and_lag_parts_of_frames() {
     let lags = defined("LTA_LAGS_MOST");
     for (kind, length, start) in [(Kind::Accumulated, 1058, 30), (Kind::Speed, 1062, 34)] {
         let fields = Fields { kind: kind as u32, ticks: 1, ..Fields::default() };
-        let frame = Frame::write(&fields, &vec![(-97, 98); lags as usize]).unwrap();
+        let frame = Frame::write(&fields, &vec![(-127, 128); lags as usize]).unwrap();
         assert_eq!(frame.bytes().len(), length, "{kind:?}");
         assert_eq!(ffi::lag_part(lags, frame.bytes()), start * 65_536 + 1024, "{kind:?}");
         assert_eq!(frame.lag_part(), &frame.bytes()[start as usize..length - 4], "{kind:?}");

@@ -8,16 +8,16 @@ const FRAMES: [(&str, &[u32]); 9] = [
     ("FRAME", &[2, 0, 3, 2, 1, 0, 0, 6, 0, 10, 0, 24]),
     // The frame of an empty set.
     ("EMPTY", &[2, 0, 0, 0, 0, 0, 0, 0, 0, 0, 0, 2]),
-    // The speed frame of that script's three ticks; DATA_BIAS is 98 × 3.
-    ("SPEED", &[3, 0, 3, 2, 1, 0, 0, 294, 6, 0, 10, 0, 319]),
+    // The speed frame of that script's three ticks; DATA_BIAS is 128 × 3.
+    ("SPEED", &[3, 0, 3, 2, 1, 0, 0, 384, 6, 0, 10, 0, 409]),
     // Each with the kind of the other length, and a kind that is none in each length.
     ("SHORT3", &[3, 0, 3, 2, 1, 0, 0, 6, 0, 10, 0, 25]),
-    ("LONG2", &[2, 0, 3, 2, 1, 0, 0, 294, 6, 0, 10, 0, 318]),
-    ("LONG4", &[4, 0, 3, 2, 1, 0, 0, 294, 6, 0, 10, 0, 320]),
-    // Another DATA_BIAS; that and a lag beyond 98 × 3; that and a last word that is the sum without it.
-    ("BIAS", &[3, 0, 3, 2, 1, 0, 0, 293, 6, 0, 10, 0, 318]),
-    ("BEYOND", &[3, 0, 3, 2, 1, 0, 0, 293, 295, 0, 10, 0, 607]),
-    ("UNSUMMED", &[3, 0, 3, 2, 1, 0, 0, 293, 6, 0, 10, 0, 25]),
+    ("LONG2", &[2, 0, 3, 2, 1, 0, 0, 384, 6, 0, 10, 0, 408]),
+    ("LONG4", &[4, 0, 3, 2, 1, 0, 0, 384, 6, 0, 10, 0, 410]),
+    // Another DATA_BIAS; that and a lag beyond 128 × 3; that and a last word that is the sum without it.
+    ("BIAS", &[3, 0, 3, 2, 1, 0, 0, 383, 6, 0, 10, 0, 408]),
+    ("BEYOND", &[3, 0, 3, 2, 1, 0, 0, 383, 385, 0, 10, 0, 787]),
+    ("UNSUMMED", &[3, 0, 3, 2, 1, 0, 0, 383, 6, 0, 10, 0, 25]),
 ];
 
 const LINES: &str = "\
@@ -58,8 +58,8 @@ write 2 3 0 0 0 0 3 2 1 0 0 59 6,0,10,0 = 0 54 SPEED
 write 2 3 0 0 0 0 3 2 1 0 0 53 6,0,10,0 = 10
 write 2 1 0 0 0 0 3 2 1 0 0 54 6,0,10,0 = 16
 write 2 4 0 0 0 0 3 2 1 0 0 0 6,0,10,0 = 16
-write 2 2 0 0 0 0 3 2 1 0 0 50 -295,0,10,0 = 16
-write 2 3 0 0 0 0 3 2 1 0 0 54 -295,0,10,0 = 16
+write 2 2 0 0 0 0 3 2 1 0 0 50 -385,0,10,0 = 16
+write 2 3 0 0 0 0 3 2 1 0 0 54 -385,0,10,0 = 16
 write 2 2 0 0 0 0 3 2 1 0 0 50 - = 16
 write 3 2 0 0 0 0 3 2 1 0 0 50 6,0,10,0 = 1
 write 3 4 0 0 0 0 3 2 1 0 0 50 6,0,10,0 = 1

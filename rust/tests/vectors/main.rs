@@ -1,4 +1,4 @@
-//! A list of calls with their answers, worked out from document 01 and the requests up to 2026-05 apart from this
+//! A list of calls with their answers, worked out from document 01 and the requests up to 2026-06 apart from this
 //! project, through the C interface.
 //!
 //! A line is `CALL ARGS = ANSWER`: decimal numbers, hexadecimal buffers, `-` for no bytes and for an argument that
@@ -34,27 +34,27 @@ mod words;
 
 use std::collections::BTreeMap;
 
-const LIST: &str = include_str!("level-05.txt");
-const LEVEL: u32 = 5;
+const LIST: &str = include_str!("level-06.txt");
+const LEVEL: u32 = 6;
 
 /// How many lines of each kind the list has.
 const LINES: [(&str, usize); 16] = [
     ("@", 15),
     ("bound", 1),
-    ("dump", 116),
-    ("emit", 24),
+    ("dump", 146),
+    ("emit", 19),
     ("end", 1),
-    ("forecast", 16),
-    ("integrate", 136),
+    ("forecast", 24),
+    ("integrate", 157),
     ("level", 1),
-    ("norm", 8),
-    ("page", 8),
-    ("part", 8),
-    ("read", 8),
-    ("reading", 62),
-    ("setup", 2),
+    ("norm", 5),
+    ("page", 7),
+    ("part", 5),
+    ("read", 5),
+    ("reading", 50),
+    ("setup", 1),
     ("shape", 1),
-    ("tick", 175),
+    ("tick", 134),
 ];
 
 #[test]

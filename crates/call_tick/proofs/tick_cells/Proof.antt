@@ -37,20 +37,35 @@ mul-i c =
     let x = c .before .before .before .before in
     omega (arith, shape-is (x .args .s) (now (x .args .mem)) (x .pre .0) .cells)
 
-shared-slice-read-x : tie.Need-shared-slice-read-x Inv-loop μ-loop
-shared-slice-read-x c = omega (arith, c .before .before .before .before .before .pre .1)
-
-add-y : tie.Need-add-y Inv-loop μ-loop
-add-y c =
-    let x = c .before .before .before .before .before in
+add-valid : tie.Need-add-valid Inv-loop μ-loop
+add-valid c =
+    let x = c .before .before .before .before in
     omega (arith, shape-is (x .args .s) (now (x .args .mem)) (x .pre .0) .cells)
 
-shared-slice-read-y : tie.Need-shared-slice-read-y Inv-loop μ-loop
-shared-slice-read-y c = omega (arith, c .before .before .before .before .before .before .pre .1)
+shared-slice-read-valid : tie.Need-shared-slice-read-valid Inv-loop μ-loop
+shared-slice-read-valid c = omega (arith, c .before .before .before .before .before .pre .1)
+
+shared-slice-read-entry-of : tie.Need-shared-slice-read-entry-of Inv-loop μ-loop
+shared-slice-read-entry-of c = omega (arith, c .before .before .before .before .before .before .pre .1)
+
+entry-of-requires : tie.Need-entry-of-requires Inv-loop μ-loop
+entry-of-requires c κs = tt
+
+add-entry-of : tie.Need-add-entry-of Inv-loop μ-loop
+add-entry-of c =
+    let x = c .before .before .before .before .before .before .before in
+    omega (arith, shape-is (x .args .s) (now (x .args .mem)) (x .pre .0) .cells)
+
+shared-slice-read-entry-of-2 : tie.Need-shared-slice-read-entry-of-2 Inv-loop μ-loop
+shared-slice-read-entry-of-2 c =
+    omega (arith, c .before .before .before .before .before .before .before .before .pre .1)
+
+entry-of-requires-2 : tie.Need-entry-of-requires-2 Inv-loop μ-loop
+entry-of-requires-2 c κs = tt
 
 tick-at-requires : tie.Need-tick-at-requires Inv-loop μ-loop
 tick-at-requires c κs =
-    let y = c .before .before .before .before in
+    let y = c .before .before .before .before .before .before .before in
     let x = y .before .before .before in
     let a = x .args in
     may-tick (a .s) (now (a .mem)) (x .pre .0) (now (a .samples)) (y .loop .c) (y .loop .mem) (y .loop .inv .1)
@@ -58,7 +73,7 @@ tick-at-requires c κs =
 
 add-held : tie.Need-add-held Inv-loop μ-loop
 add-held c =
-    let y = c .before .before .before .before .before .before .before in
+    let y = c .before .before .before .before .before .before .before .before .before .before in
     let x = y .before .before .before in
     let small = shape-is (x .args .s) (now (x .args .mem)) (x .pre .0) .cells in
     omega (arith, small, y .loop .inv .3, one-at-most (c .before .before .tick-at .ensures))
@@ -71,11 +86,13 @@ loop-less c = omega arith
 
 loop-again : tie.Need-loop-again Inv-loop μ-loop
 loop-again c =
-    let y = c .before .before .before .before .before .before .before in
+    let z = c .before .before .before .before in
+    let w = z .before .before in
+    let y = w .before .before .before .before in
     let x = y .before .before .before in
     let a = x .args in
     let k = y .loop .c in
-    let ticked = c .before .before .tick-at .ensures in
+    let ticked = rw (w .entry-of .ensures, z .entry-of2 .ensures) at (c .before .before .tick-at .ensures) in
     let inside : k < a .s .cells = omega arith in
     let words =
     has-ticked (a .s) (now (a .mem)) (x .pre .0) (now (a .samples)) k (y .loop .mem) (y .loop .inv .1) inside _ _ ticked
@@ -112,9 +129,13 @@ tick-cells-spec =
     μ-loop
     loop-holds
     mul-i
-    shared-slice-read-x
-    add-y
-    shared-slice-read-y
+    add-valid
+    shared-slice-read-valid
+    shared-slice-read-entry-of
+    entry-of-requires
+    add-entry-of
+    shared-slice-read-entry-of-2
+    entry-of-requires-2
     tick-at-requires
     add-held
     add-c

@@ -65,6 +65,9 @@ enum-told-17 c = search needs
 enum-told-18 : tie.Need-enum-told-18
 enum-told-18 c = search needs
 
+enum-told-19 : tie.Need-enum-told-19
+enum-told-19 c = search needs
+
 returns : tie.Need-returns
 returns c = search told
 
@@ -119,6 +122,9 @@ returns-17 c = search told
 returns-18 : tie.Need-returns-18
 returns-18 c = search told
 
+returns-19 : tie.Need-returns-19
+returns-19 c = search told
+
 pub refusal-code-spec : {M : Type 1} → statement M
 refusal-code-spec =
     tie.close
@@ -141,6 +147,7 @@ refusal-code-spec =
     enum-told-16
     enum-told-17
     enum-told-18
+    enum-told-19
     returns
     returns-2
     returns-3
@@ -158,4 +165,5 @@ refusal-code-spec =
     returns-15
     returns-16
     returns-17
-    returns-18)
+    returns-18
+    returns-19)

@@ -7,25 +7,24 @@ use native.Mathlib.Omega.{arith}
 use lib.ListN.{length, take, length-set}
 use denote.Ref.{now}
 use Rattle.lta_spec.specs.Words.{part, splice}
-use Rattle.lta_spec.specs.Row.{entryWord}
 use Rattle.lta_spec.proofs.WordLaws.{splice-nil, part-zero}
 use Rattle.lag_registers.proofs.Loops.{moved-next, moved-whole}
 use Rattle.lag_registers.proofs.shift.Statement.{statement}
 use Rattle.lag_registers.proofs.shift.Tie as tie
 
 abbrev Inv-loop : tie.InvT-loop
-Inv-loop s₀ at depth byte j₀ s j =
+Inv-loop s₀ at depth entry j₀ s j =
     (j < depth) × (s ≡ splice s₀ (suc (at + j)) (part (at + j) (depth - suc j) s₀)) × (length s ≡ length s₀)
 
 abbrev μ-loop : tie.MeasureT-loop
-μ-loop s₀ at depth byte j₀ s j = j
+μ-loop s₀ at depth entry j₀ s j = j
 
 sub-j : tie.Need-sub-j Inv-loop μ-loop
 sub-j c = omega arith
 
 loop-holds : tie.Need-loop-holds Inv-loop μ-loop
 loop-holds c =
-    let d = c .before .args .depth in
+    let d = c .args .depth in
     let none : d - suc (d - 1) ≡ 0 = omega arith in
     (omega arith, rw (none, part-zero) (sym (splice-nil _ _)), refl)
 
@@ -56,7 +55,7 @@ loop-less c = omega arith
 loop-again : tie.Need-loop-again Inv-loop μ-loop
 loop-again c =
     let t = c .before .before in
-    let a = t .before .before .args in
+    let a = t .before .args in
     let v = t .loop .inv in
     let j = t .loop .j in
     let k : ℕ = a .at + (j - 1) in
@@ -69,9 +68,6 @@ loop-again c =
       simp length-set (v .2),
     )
 
-entry-requires : tie.Need-entry-requires Inv-loop μ-loop
-entry-requires c κs = tt
-
 mul-s-2 : tie.Need-mul-s-2 Inv-loop μ-loop
 mul-s-2 c = omega arith
 
@@ -79,21 +75,20 @@ slice-write-s-2 : tie.Need-slice-write-s-2 Inv-loop μ-loop
 slice-write-s-2 c = omega arith
 
 same-length : tie.Need-same-length Inv-loop μ-loop
-same-length c = simp length-set (c .before .before .loop .inv .2)
+same-length c = simp length-set (c .before .loop .inv .2)
 
 returns : tie.Need-returns Inv-loop μ-loop
 returns c =
-    let t = c .before .before in
-    let a = t .before .before .args in
+    let t = c .before in
+    let a = t .before .args in
     let l = now (a .s) in
-    let w = entryWord (a .byte) in
     let m : ℕ = a .depth - 1 in
     let past : t .loop .j ≡ 0 = omega arith in
     let whole : a .depth ≡ suc m = omega arith in
     let v : t .loop .s ≡ splice l (suc (a .at)) (part (a .at) m l) = t .loop .inv .1 ∙ rw (past, add-zero) in
-    rw (v, c .entry .ensures)
-    (moved-whole l (a .at) m w
-    ∙ ap (λ (q : ℕ). splice l (a .at) (take q (w ∷ part (a .at) q l))) (sym whole))
+    rw v
+    (moved-whole l (a .at) m (a .entry)
+    ∙ ap (λ (q : ℕ). splice l (a .at) (take q (a .entry ∷ part (a .at) q l))) (sym whole))
 
 pub shift-spec : {M : Type 1} → statement M
 shift-spec =
@@ -112,7 +107,6 @@ shift-spec =
     sub-j-2
     loop-less
     loop-again
-    entry-requires
     mul-s-2
     slice-write-s-2
     same-length

@@ -1,14 +1,14 @@
--- The loop ends: k does not pass 21.
+-- The loop ends: k does not pass 22.
 use Prim.Native.Nat.{_-_, _≤_}
 use native.Mathlib.Omega.{arith}
 use Rattle.test_script.proofs.cuts.Statement.{statement}
 use Rattle.test_script.proofs.cuts.Tie as tie
 
 abbrev Inv-loop : tie.InvT-loop
-Inv-loop s k₀ k = k ≤ 21
+Inv-loop s k₀ k = k ≤ 22
 
 abbrev μ-loop : tie.MeasureT-loop
-μ-loop s k₀ k = 21 - k
+μ-loop s k₀ k = 22 - k
 
 loop-holds : tie.Need-loop-holds Inv-loop μ-loop
 loop-holds c = omega arith

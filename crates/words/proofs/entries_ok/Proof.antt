@@ -1,4 +1,4 @@
--- A word below 256 is one that is at most 255.
+-- A word below 512 is one that is at most 511.
 use mathlib.Core.Path.{sym, _∙_}
 use lib.Dec.{leb·suc-suc}
 use denote.Ref.{now}
@@ -17,7 +17,7 @@ returns : tie.Need-returns
 returns c =
     let a = c .before .before .args in
     c .within .ensures
-    ∙ sym (every-same entryOk (atMost 255) (λ x. leb·suc-suc x 255) (part (a .at) (a .n) (now (a .s))))
+    ∙ sym (every-same entryOk (atMost 511) (λ x. leb·suc-suc x 511) (part (a .at) (a .n) (now (a .s))))
 
 pub entries-ok-spec : {M : Type 1} → statement M
 entries-ok-spec = tie.close (tie.spec within-requires returns)

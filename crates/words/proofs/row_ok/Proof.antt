@@ -48,8 +48,14 @@ add-within c = search needs
 mul-within : tie.Need-mul-within
 mul-within c = search needs
 
+cast-within : tie.Need-cast-within
+cast-within c = search needs
+
 mul-within-2 : tie.Need-mul-within-2
 mul-within-2 c = search needs
+
+mul-within-3 : tie.Need-mul-within-3
+mul-within-3 c = search needs
 
 within-requires : tie.Need-within-requires
 within-requires c κs = search needs
@@ -74,6 +80,8 @@ row-ok-spec =
     shared-slice-read-few-2
     add-within
     mul-within
+    cast-within
     mul-within-2
+    mul-within-3
     within-requires
     returns-2)

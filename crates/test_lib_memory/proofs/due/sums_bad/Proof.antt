@@ -10,8 +10,8 @@ Inv-loop mem at n ticks most end bad₀ j₀ bad j = Unit {0}
 abbrev μ-loop : tie.MeasureT-loop
 μ-loop mem at n ticks most end bad₀ j₀ bad j = end - j
 
-times-requires : tie.Need-times-requires Inv-loop μ-loop
-times-requires c κs = search needs
+greatest-requires : tie.Need-greatest-requires Inv-loop μ-loop
+greatest-requires c κs = search needs
 
 mul-end : tie.Need-mul-end Inv-loop μ-loop
 mul-end c = search needs
@@ -46,7 +46,7 @@ sums-bad-spec =
     (tie.spec
     Inv-loop
     μ-loop
-    times-requires
+    greatest-requires
     mul-end
     loop-holds
     add-wrapping-add-u64
