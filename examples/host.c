@@ -1,6 +1,6 @@
 /* A run from C: two aerials see the same noise, one of them two ticks later, and a lag stands out. A speed dump shows
- * what is open. Then more ticks come than an Open takes, and dumps planned by the forecast keep all of them. A loss
- * page ends it.
+ * what is open. Then more ticks come than an Open takes, and dumps planned by the forecast keep all of them. A loop of
+ * picks sends every Ready bin, the cells in turn. A loss page ends it.
  *
  *   cc -std=c99 -Wall -Wextra -Werror -Iinclude examples/host.c target/staticlib/liblta_c.a -o target/host
  */
@@ -11,10 +11,11 @@
 
 #include "lta.h"
 
-enum { CELLS = 2, LAGS = 16, DELAY = 2, DISCARDED = 100, TICKS = 4000, GLANCE = 500, LONG = 600000, GROUP = 1000 };
+enum { CELLS = 2, LAGS = 16, BINS = 4, DELAY = 2 };
+enum { DISCARDED = 100, TICKS = 4000, GLANCE = 500, LONG = 600000, GROUP = 1000, PULSE = 50 };
 
 static const uint64_t shape[LTA_SHAPE_LEN] = {
-    [LTA_SHAPE_CELLS] = CELLS, [LTA_SHAPE_LAGS] = LAGS, [LTA_SHAPE_BINS] = 4,      [LTA_SHAPE_BLOCKS] = 1,
+    [LTA_SHAPE_CELLS] = CELLS, [LTA_SHAPE_LAGS] = LAGS, [LTA_SHAPE_BINS] = BINS,   [LTA_SHAPE_BLOCKS] = 1,
     [LTA_SHAPE_START] = 0,     [LTA_SHAPE_RATE] = 1000, [LTA_SHAPE_SECOND] = 1000,
 };
 
@@ -62,9 +63,9 @@ static void feed(int ticks) {
     }
 }
 
-/* What is open goes to bin 0. */
-static void keep(uint64_t cell, uint64_t command) {
-    uint64_t result = lta_dump(shape, LTA_SHAPE_LEN, mem, words, cell, command, 0, 0, NULL, 0);
+/* What is open goes to a bin of bank 0. With one recirculation block a phase is the data bin of that number. */
+static void keep(uint64_t cell, uint64_t command, uint64_t phase) {
+    uint64_t result = lta_dump(shape, LTA_SHAPE_LEN, mem, words, cell, command, 0, phase, NULL, 0);
     expect("what was open is held", accepted("a dump", result) == LTA_MOVED_KEPT);
     result = lta_integrate(shape, LTA_SHAPE_LEN, mem, words, cell);
     expect("it is kept", accepted("an integration", result) == LTA_MOVED_KEPT);
@@ -94,8 +95,9 @@ static uint32_t show_head(const uint8_t *frame, size_t length, uint32_t kind) {
     uint32_t head[LTA_HEAD_LEN];
     accepted("reading the frame", lta_read_frame(LAGS, frame, length, head, LTA_HEAD_LEN));
     expect("the kind of the frame", head[LTA_HEAD_KIND] == kind);
-    printf("cell %" PRIu32 ": %" PRIu32 " ticks, %" PRIu32 " valid at the centre, second %" PRIu32 "\n",
-           head[LTA_HEAD_CELL], head[LTA_HEAD_TICKS], head[LTA_HEAD_CENTRE], head[LTA_HEAD_SECOND]);
+    printf("cell %" PRIu32 ", bin %" PRIu32 ": ", head[LTA_HEAD_CELL], head[LTA_HEAD_BIN]);
+    printf("%" PRIu32 " ticks, %" PRIu32 " valid at the centre, second %" PRIu32 "\n", head[LTA_HEAD_TICKS],
+           head[LTA_HEAD_CENTRE], head[LTA_HEAD_SECOND]);
     return head[LTA_HEAD_TICKS];
 }
 
@@ -143,7 +145,7 @@ static int dump_in_time(uint64_t cell) {
     uint64_t result = lta_forecast(shape, LTA_SHAPE_LEN, mem, words, cell);
     int full = accepted("a forecast", result) < GROUP;
     if (full) {
-        keep(cell, LTA_COMMAND_ADD);
+        keep(cell, LTA_COMMAND_ADD, 0);
     }
     return full;
 }
@@ -165,6 +167,36 @@ static void plan(void) {
     }
     printf("%d ticks more with %d dumps by the forecast, and none is held off\n", LONG, dumps);
     expect("a dump of each cell", dumps == CELLS);
+}
+
+/* Every bin of bank 0 becomes Ready: the first with what the forecasts kept, each other with some ticks of its own. */
+static void fill_bins(void) {
+    for (uint64_t phase = 0; phase < BINS; phase++) {
+        for (uint64_t cell = 0; cell < CELLS; cell++) {
+            keep(cell, LTA_COMMAND_LAST, phase);
+        }
+        feed(PULSE);
+    }
+}
+
+/* Whatever is Ready leaves as frames, until a pick finds no more; the host names no bin. */
+static void drain(void) {
+    uint8_t frame[LTA_FRAME_LEN(LAGS)];
+    int frames = 0;
+    uint32_t ticks = 0;
+    uint64_t result = lta_pick(shape, LTA_SHAPE_LEN, mem, words, frame, sizeof frame);
+    while (LTA_REFUSAL(result) != LTA_REFUSAL_NOTHING_READY) {
+        uint32_t length = accepted("a pick", result);
+        expect("the length of a picked frame", length == sizeof frame);
+        printf("picked: ");
+        ticks += show_head(frame, length, LTA_KIND_ACCUMULATED);
+        frames++;
+        result = lta_pick(shape, LTA_SHAPE_LEN, mem, words, frame, sizeof frame);
+    }
+    printf("%d frames picked, %" PRIu32 " ticks, and no bin is Ready\n", frames, ticks);
+    expect("a frame of each bin", frames == CELLS * BINS);
+    /* Cell 1 has kept its ticks of the glance too: only cell 0 sent them by the speed dump. */
+    expect("the ticks of the bins", ticks == CELLS * LONG + GLANCE + CELLS * (BINS - 1) * PULSE);
 }
 
 /* All that was lost, as printed lines: what was discarded of each cell, and nothing else. */
@@ -191,7 +223,7 @@ int main(void) {
     }
     feed(TICKS);
     for (uint64_t cell = 0; cell < CELLS; cell++) {
-        keep(cell, LTA_COMMAND_LAST);
+        keep(cell, LTA_COMMAND_LAST, 0);
         show_frame(cell);
     }
     show_loss(1);
@@ -201,6 +233,8 @@ int main(void) {
     feed(GLANCE);
     show_speed(0);
     plan();
+    fill_bins();
+    drain();
     show_page();
     free(mem);
     return 0;

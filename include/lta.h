@@ -34,7 +34,7 @@ extern "C" {
 #endif
 
 #define LTA_VERSION_MAJOR 0
-#define LTA_VERSION_MINOR 5
+#define LTA_VERSION_MINOR 6
 #define LTA_VERSION_PATCH 0
 #define LTA_VERSION (LTA_VERSION_MAJOR * 1000000 + LTA_VERSION_MINOR * 1000 + LTA_VERSION_PATCH)
 
@@ -63,7 +63,8 @@ enum lta_refusal {
     LTA_REFUSAL_BAD_FIELD = 16,    /* a field of a frame breaks its rule */
     LTA_REFUSAL_BAD_RECORD = 17,   /* of scripts alone: unknown mark or a cut record */
     LTA_REFUSAL_WRONG_BIAS = 18,   /* a speed frame with the wrong DATA_BIAS */
-    LTA_REFUSAL_BAD_VALIDITY = 19  /* a validity byte has another bit set than its lowest two */
+    LTA_REFUSAL_BAD_VALIDITY = 19, /* a validity byte has another bit set than its lowest two */
+    LTA_REFUSAL_NOTHING_READY = 20 /* no cell has a Ready bin */
 };
 
 /* A shape is seven numbers, in this order: C, N, B, M, S, R, Z. */
@@ -124,7 +125,7 @@ enum lta_counts { LTA_COUNTS_TICKS = 0, LTA_COUNTS_EDGE = 1, LTA_COUNTS_CENTRE =
 
 /* The kinds of frame. */
 enum lta_kind {
-    LTA_KIND_ACCUMULATED = 2, /* of a bin, by lta_emit */
+    LTA_KIND_ACCUMULATED = 2, /* of a bin, by lta_emit or lta_pick */
     LTA_KIND_SPEED = 3        /* a speed frame: of what is open, by lta_dump with command 3 */
 };
 
@@ -199,13 +200,37 @@ uint64_t lta_dump(const uint64_t *shape, size_t shape_len, uint64_t *mem, size_t
                   uint64_t cell, uint64_t command, uint64_t bank, uint64_t phase, uint8_t *out, size_t out_len);
 
 /* An integration of one cell; answers LTA_MOVED_KEPT, or loss 3 full, 4 replaced or 5 wide.
- * Refuses 1, 2, 5, 11, 8: nothing held. */
+ * Refuses 1, 2, 5, 11: damaged memory, the cell's number of Ready bins included, 8: nothing held. */
 uint64_t lta_integrate(const uint64_t *shape, size_t shape_len, uint64_t *mem, size_t mem_len, uint64_t cell);
 
 /* An emission: the frame of a Ready bin into the front of out; answers the frame's length.
- * Refuses 1, 2, 5, 7: no such bank or data bin, 11, 9: bin not Ready, 10: buffer shorter than a frame. */
+ * Refuses 1, 2, 5, 7: no such bank or data bin, 11: damaged memory, the cell's number of Ready bins included, 9: bin
+ * not Ready, 10: buffer shorter than a frame. */
 uint64_t lta_emit(const uint64_t *shape, size_t shape_len, uint64_t *mem, size_t mem_len,
                   uint64_t cell, uint64_t bank, uint64_t bin, uint8_t *out, size_t out_len);
+
+/* A pick: an emission of the Ready bin whose turn it is; answers the frame's length. The header of the frame has the
+ * cell, the bank and the data bin.
+ *
+ * Cells take turns, and so do the bins of a cell. From the cell after the last one served, cell 0 in a fresh run, and
+ * going round, the first cell with a Ready bin is served. Within it the bins of bank 0 and then those of bank 1 go
+ * round, from after the bin last picked in that cell, at first from bank 0, bin 0. The cell last served and the bin
+ * last picked are the last candidates of their rounds, not left out. Only an accepted pick moves these places: that of
+ * the run, and that of the cell it served. An emission by lta_emit moves none.
+ *
+ * So a Ready bin is emitted within C * 2B accepted picks, whatever other calls stand between. A loop that empties all
+ * Ready bins of a run, and ends with LTA_REFUSAL_NOTHING_READY:
+ *
+ *     uint64_t result = lta_pick(shape, LTA_SHAPE_LEN, mem, words, frame, sizeof frame);
+ *     while (LTA_REFUSAL(result) == LTA_REFUSAL_NONE) {
+ *         send(frame, LTA_ANSWER(result));
+ *         result = lta_pick(shape, LTA_SHAPE_LEN, mem, words, frame, sizeof frame);
+ *     }
+ *
+ * Refuses 1, 2, 11: damaged memory, which here is a bin of any cell, a number of Ready bins that differs from them, or
+ * a place that is none of the run's, 20: no cell has a Ready bin, 10: buffer shorter than a frame. */
+uint64_t lta_pick(const uint64_t *shape, size_t shape_len, uint64_t *mem, size_t mem_len,
+                  uint8_t *out, size_t out_len);
 
 /* A reading of one loss at one lag into sums and counts, by lta_sums and lta_counts; answers 0. It changes nothing.
  * Refuses 1, 2, 5, 12: no such lag or loss, 11, and last 10: room for fewer than 2 sums or 3 counts. */
@@ -218,8 +243,8 @@ uint64_t lta_reading(const uint64_t *shape, size_t shape_len, const uint64_t *me
  * A forecast of n holds up to the cell's next accepted dump with a command other than LTA_COMMAND_IDLE. Until then the
  * next n accepted ticks join the cell's Open, and none of them counts the cell among those held off. Each accepted tick
  * after them does, and goes to loss 6 of the cell. Refused calls make no difference, nor do calls on other cells, nor
- * the cell's own integrations, emissions, readings, forecasts and idle dumps, nor pages. The end of the run is not
- * taken into account: where it comes first, the ticks are refused by 4.
+ * the cell's own integrations, emissions, readings, forecasts and idle dumps, nor picks and pages. The end of the run
+ * is not taken into account: where it comes first, the ticks are refused by 4.
  *
  * So loss 6 stays empty where the host dumps when the forecast is 0, or below the number of ticks that come before it
  * can dump again. Ahead of each group of ticks, 1 to 524,288 of them:

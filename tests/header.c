@@ -19,6 +19,7 @@ typedef char the_longest_page[LTA_PAGE_LEN(LTA_CELLS_MOST) == 3977 ? 1 : -1];
 int tick_without_y(const uint64_t *shape, uint64_t *mem, size_t words, uint8_t x);
 int discard(const uint64_t *shape, uint64_t *mem, size_t words, uint64_t cell);
 size_t frame_of(const uint64_t *shape, uint64_t *mem, size_t words, uint8_t *out);
+int drain(const uint64_t *shape, uint64_t *mem, size_t words, uint8_t *out);
 size_t page_of(const uint64_t *shape, const uint64_t *mem, size_t words, uint8_t *out);
 const uint8_t *pairs_of(const uint64_t *shape, uint64_t *mem, size_t words, uint8_t *out, size_t *length);
 
@@ -47,6 +48,19 @@ size_t frame_of(const uint64_t *shape, uint64_t *mem, size_t words, uint8_t *out
     size_t room = LTA_FRAME_LEN(shape[LTA_SHAPE_LAGS]);
     uint64_t result = lta_emit(shape, LTA_SHAPE_LEN, mem, words, 0, 0, 0, out, room);
     return LTA_REFUSAL(result) == LTA_REFUSAL_NONE && LTA_ANSWER(result) == room ? room : 0;
+}
+
+/* How many frames the Ready bins of a run give, each in the place of the one before; -1 where a pick is refused while
+ * there are any. */
+int drain(const uint64_t *shape, uint64_t *mem, size_t words, uint8_t *out) {
+    size_t room = LTA_FRAME_LEN(shape[LTA_SHAPE_LAGS]);
+    int frames = 0;
+    uint64_t result = lta_pick(shape, LTA_SHAPE_LEN, mem, words, out, room);
+    while (LTA_REFUSAL(result) == LTA_REFUSAL_NONE) {
+        frames++;
+        result = lta_pick(shape, LTA_SHAPE_LEN, mem, words, out, room);
+    }
+    return LTA_REFUSAL(result) == LTA_REFUSAL_NOTHING_READY ? frames : -1;
 }
 
 /* The length of a page, or 0. */

@@ -64,6 +64,17 @@ impl Pair {
         }
     }
 
+    fn pick(&mut self) {
+        let length = self.shape.frame_length() - self.noise.below(8).saturating_sub(6) as usize;
+        let (mut one, mut other) = (vec![0; length], vec![0; length]);
+        let picked = self.proved.pick(&mut one);
+        same("pick", picked, self.peer.pick(&mut other));
+        same("picked frame", &one, &other);
+        if picked.is_ok() {
+            self.frame(&mut one);
+        }
+    }
+
     /// A dump with a buffer that is as long as a speed frame, or at times one byte shorter.
     fn dump(&mut self, cell: u64, command: u64, bank: u64, phase: u64) {
         let length = length(SPEED, self.shape.lags) - self.noise.below(8).saturating_sub(6) as usize;
@@ -114,7 +125,7 @@ impl Pair {
         self.calls += 1;
         let s = self.shape;
         let noise = &mut self.noise;
-        let (kind, cell, bank) = (noise.below(17), noise.near(s.cells), noise.near(2));
+        let (kind, cell, bank) = (noise.below(18), noise.near(s.cells), noise.near(2));
         let (command, phase) = (noise.below(9), noise.near((s.bins / s.blocks).min(2)));
         let (offset, lag, loss) = (noise.near(s.blocks), noise.near(s.lags), noise.near(7));
         match kind {
@@ -124,15 +135,18 @@ impl Pair {
             13 => self.emit(cell, bank, phase * s.blocks + offset),
             14 => same("reading", self.proved.reading(cell, lag, loss), self.peer.reading(cell, lag, loss)),
             15 => same("forecast", self.proved.forecast(cell), self.peer.forecast(cell)),
+            16 => self.pick(),
             _ => self.page(),
         }
     }
 
-    /// Some calls with a word of both altered; then all is as it was.
+    /// A pick, which tests the most, and some calls with a word of both altered; then all is as it was.
     fn with_word(&mut self, at: usize, word: u64) {
         let before = (self.proved.clone(), self.peer.clone());
         self.proved.set_word(at, word);
         self.peer.set_word(at, word);
+        self.calls += 1;
+        self.pick();
         for _ in 0..8 {
             self.call();
         }
@@ -164,22 +178,26 @@ impl Pair {
         self.peer.pretend(right);
     }
 
-    /// Time, flags, labels, stamps, blocks, last commands and counts mean the same in both; ticks and register entries
-    /// do where they pass their limit.
+    /// Time, places, flags, labels, stamps, blocks, last commands, states, numbers of Ready bins and counts mean the
+    /// same in both; ticks and register entries do where they pass their limit.
     fn alter(&mut self) {
         let lags = self.shape.lags as usize;
         let row = 3 + 2 * lags;
+        let registers = 11 + 8 * row;
+        let last_word = self.proved.memory_bytes() / 8 - 1;
+        let last_bin = last_word - (2 + row);
+        let rows: Vec<usize> = (0..8).map(|number| 11 + number * row).chain([last_bin + 2]).collect();
         for word in [0, 1, 2, 3, 4, 5, 524_289, 2_147_483_648, 2_147_483_649, u64::MAX] {
-            for at in 0..9 {
+            for at in (0..11).chain([registers + lags + 2, last_bin, last_bin + 1, last_word]) {
                 self.with_word(at, word);
             }
-            for ticks_at in (0..8).map(|number| 9 + number * row) {
+            for &ticks_at in &rows {
                 self.with_word(ticks_at + 1, word);
                 self.with_word(ticks_at + 2, word);
                 self.with_word(ticks_at, word.max(2_147_483_649));
             }
             for entry in [0, lags / 2, lags + 1] {
-                self.with_word(9 + 8 * row + entry, word.max(512));
+                self.with_word(registers + entry, word.max(512));
             }
         }
     }

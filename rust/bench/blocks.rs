@@ -7,6 +7,8 @@
 use std::time::{Duration, Instant};
 
 const ROUNDS: usize = 801;
+/// So many where doing the work once takes much longer than a block.
+const FEW_ROUNDS: usize = 51;
 const BLOCK: Duration = Duration::from_micros(300);
 const WARM_UP: usize = 16;
 
@@ -58,9 +60,9 @@ pub fn in_turn<const K: usize>(
     mut proved: impl FnMut(usize) -> [f64; K],
     mut peer: impl FnMut(usize) -> [f64; K],
 ) -> [Blocks; K] {
-    let (one, other) = (filling(&mut proved), filling(&mut peer));
+    let ((one, once), (other, its_once)) = (filling(&mut proved), filling(&mut peer));
     let mut blocks = [(); K].map(|()| Blocks::new());
-    for round in 0..ROUNDS {
+    for round in 0..rounds(once.max(its_once)) {
         let (mine, its) = if round % 2 == 0 {
             let mine = proved(one);
             (mine, peer(other))
@@ -76,15 +78,23 @@ pub fn in_turn<const K: usize>(
     blocks
 }
 
-/// How many times the work of a block fills it: the better of two tries.
-fn filling<const K: usize>(block: &mut impl FnMut(usize) -> [f64; K]) -> usize {
+fn rounds(once: Duration) -> usize {
+    if once > 4 * BLOCK {
+        FEW_ROUNDS
+    } else {
+        ROUNDS
+    }
+}
+
+/// How many times the work of a block fills it, and how long once takes: the better of two tries.
+fn filling<const K: usize>(block: &mut impl FnMut(usize) -> [f64; K]) -> (usize, Duration) {
     let mut once = || {
         let start = Instant::now();
         block(WARM_UP);
         start.elapsed() / WARM_UP as u32
     };
     let once = once().min(once()).max(Duration::from_nanos(1));
-    (BLOCK.as_nanos() / once.as_nanos()).clamp(1, 100_000) as usize
+    ((BLOCK.as_nanos() / once.as_nanos()).clamp(1, 100_000) as usize, once)
 }
 
 /// Nanoseconds of one turn of the work.

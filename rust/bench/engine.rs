@@ -17,6 +17,7 @@ pub trait Engine: Sized {
     ) -> Result<u32, Refusal>;
     fn integrate(&mut self, cell: u64) -> Result<u32, Refusal>;
     fn emit(&mut self, cell: u64, bank: u64, bin: u64, out: &mut [u8]) -> Result<usize, Refusal>;
+    fn pick(&mut self, out: &mut [u8]) -> Result<usize, Refusal>;
     fn reading(&self, cell: u64, lag: u64, loss: u64) -> Result<Sums, Refusal>;
     fn forecast(&self, cell: u64) -> Result<u32, Refusal>;
     fn page(&self, out: &mut [u8]) -> Result<usize, Refusal>;
@@ -38,8 +39,8 @@ pub trait Engine: Sized {
     /// limits beside any ticks, and stands for another sum in each engine.
     fn set_loss(&mut self, shape: &Shape, cell: u64, loss: u64, counts: [u64; 3]) {
         let (cells, row) = (shape.cells as usize, 3 + 2 * shape.lags as usize);
-        let cell_words = (self.memory_bytes() / 8 - 1) / cells;
-        let at = 9 + cell as usize * cell_words + (1 + loss as usize) * row;
+        let cell_words = (self.memory_bytes() / 8 - 2) / cells;
+        let at = 11 + cell as usize * cell_words + (1 + loss as usize) * row;
         for (place, count) in (at..).zip(counts) {
             self.set_word(place, count);
         }
@@ -85,6 +86,10 @@ impl Engine for Proved {
     fn emit(&mut self, cell: u64, bank: u64, bin: u64, out: &mut [u8]) -> Result<usize, Refusal> {
         let result = ffi::emit(&self.shape, &mut self.words, cell, bank, bin, out);
         ffi::outcome(result).map(|length| length as usize)
+    }
+
+    fn pick(&mut self, out: &mut [u8]) -> Result<usize, Refusal> {
+        ffi::outcome(ffi::pick(&self.shape, &mut self.words, out)).map(|length| length as usize)
     }
 
     fn reading(&self, cell: u64, lag: u64, loss: u64) -> Result<Sums, Refusal> {
@@ -165,6 +170,10 @@ impl Engine for Peer {
 
     fn emit(&mut self, cell: u64, bank: u64, bin: u64, out: &mut [u8]) -> Result<usize, Refusal> {
         peer::emit(&self.shape, &mut self.words, cell, bank, bin, out)
+    }
+
+    fn pick(&mut self, out: &mut [u8]) -> Result<usize, Refusal> {
+        peer::pick(&self.shape, &mut self.words, out)
     }
 
     fn reading(&self, cell: u64, lag: u64, loss: u64) -> Result<Sums, Refusal> {

@@ -30,6 +30,10 @@ fn whole_calls(table: &mut Table) -> io::Result<()> {
     for (name, blocks) in timing::ON_A_CELL.iter().zip(&timing::on_a_cell(shape(16, 128, 4))) {
         table.row(&format!("{name} N=128"), "ns", blocks, |ns| ns)?;
     }
+    for bins in [10, 1000] {
+        let blocks = timing::pick(shape(16, 128, bins));
+        table.row(&format!("pick C=16 N=128 B={bins}"), "us", &blocks, |ns| ns / 1e3)?;
+    }
     for lags in [2, 128] {
         let blocks = timing::page(shape(16, lags, 1));
         table.row(&format!("page C=16 N={lags}"), "us", &blocks, |ns| ns / 1e3)?;

@@ -10,7 +10,7 @@ mod row;
 use lta::{Refusal, Shape, Sums};
 
 use cell::{Cell, CellRef};
-use layout::Layout;
+use layout::{Layout, CELLS, NEXT_BIN, READY_BINS, RUN_WORDS};
 
 const OPEN_LIMIT: i64 = 524_288;
 const BIN_LIMIT: i64 = 16_777_215;
@@ -54,7 +54,7 @@ fn lags_ok(lags: u64) -> bool {
 #[inline(never)]
 pub fn words_needed(shape: &Shape) -> Result<usize, Refusal> {
     check(shape_ok(shape), Refusal::BadShape)?;
-    Ok(1 + shape.cells as usize * Layout::new(shape).words())
+    Ok(RUN_WORDS + shape.cells as usize * Layout::new(shape).words())
 }
 
 /// Refusals 1 and 2, and then the layout of a cell.
@@ -80,11 +80,11 @@ pub fn tick(shape: &Shape, mem: &mut [i64], samples: &[u8]) -> Result<u32, Refus
     check(sampled.all(|bytes| bytes[2] <= 3), Refusal::BadValidity)?;
     let t = mem[0];
     check(t != RUN_LIMIT, Refusal::RunFull)?;
-    let mut cells = mem[1..].chunks_exact(layout.words());
+    let mut cells = mem[CELLS..].chunks_exact(layout.words());
     let sound = (0..=RUN_LIMIT).contains(&t) && cells.all(|words| CellRef { layout, words }.tick_ok(t));
     check(sound, Refusal::Damaged)?;
     let mut held_off = 0;
-    for (cell, words) in mem[1..].chunks_exact_mut(layout.words()).enumerate() {
+    for (cell, words) in mem[CELLS..].chunks_exact_mut(layout.words()).enumerate() {
         let bytes = &samples[3 * cell..][..3];
         held_off += u32::from(Cell { layout, words }.tick(bytes[0], bytes[1], bytes[2]));
     }
@@ -95,8 +95,12 @@ pub fn tick(shape: &Shape, mem: &mut [i64], samples: &[u8]) -> Result<u32, Refus
 /// The words of a cell, or refusal 5.
 fn part(shape: &Shape, layout: &Layout, cell: u64) -> Result<std::ops::Range<usize>, Refusal> {
     check(cell < shape.cells, Refusal::NoCell)?;
-    let start = 1 + cell as usize * layout.words();
-    Ok(start..start + layout.words())
+    Ok(words_of(layout, cell))
+}
+
+fn words_of(layout: &Layout, cell: u64) -> std::ops::Range<usize> {
+    let start = CELLS + cell as usize * layout.words();
+    start..start + layout.words()
 }
 
 fn bin_rule_ok(s: &Shape, bank: u64, phase: u64) -> bool {
@@ -164,13 +168,48 @@ pub fn emit(
     let words = &mut mem[part];
     let number = (bank * shape.bins + bin) as usize;
     let view = CellRef { layout, words };
-    check((0..=RUN_LIMIT).contains(&t) && view.bin_ok(t, number), Refusal::Damaged)?;
-    check(words[layout.state(number)] == READY, Refusal::NotReady)?;
+    check((0..=RUN_LIMIT).contains(&t) && view.emit_ok(t, number), Refusal::Damaged)?;
+    check(view.is_ready(number), Refusal::NotReady)?;
+    send_bin(shape, &layout, words, [cell, bank, bin], out)
+}
+
+/// The frame of a Ready bin, in the words of its cell, into the front of out, or refusal 10; the bin is then Free.
+fn send_bin(
+    shape: &Shape,
+    layout: &Layout,
+    words: &mut [i64],
+    label: [u64; 3],
+    out: &mut [u8],
+) -> Result<usize, Refusal> {
     let length = frame::length(frame::ACCUMULATOR, shape.lags);
     let out = out.get_mut(..length).ok_or(Refusal::ShortBuffer)?;
+    let number = (label[1] * shape.bins + label[2]) as usize;
     let stamp = words[layout.bin_stamp(number)] as u64;
-    frame::send(out, frame::ACCUMULATOR, shape, [cell, bank, bin], stamp, &mut words[layout.bin_row(number)]);
+    frame::send(out, frame::ACCUMULATOR, shape, label, stamp, &mut words[layout.bin_row(number)]);
     words[layout.state(number)] = FREE;
+    words[READY_BINS] -= 1;
+    Ok(length)
+}
+
+/// An emission of the Ready bin whose turn it is into the front of out; answers the frame's length.
+#[inline(never)]
+pub fn pick(shape: &Shape, mem: &mut [i64], out: &mut [u8]) -> Result<usize, Refusal> {
+    let layout = host(shape, mem.len())?;
+    let last = mem.len() - 1;
+    let (t, next) = (mem[0], mem[last]);
+    let mut cells = mem[CELLS..].chunks_exact(layout.words()).map(|words| CellRef { layout, words });
+    let places_ok = (0..=RUN_LIMIT).contains(&t) && (0..shape.cells as i64).contains(&next);
+    check(places_ok && cells.all(|cell| cell.pick_ok(t)), Refusal::Damaged)?;
+    let view = |cell| CellRef { layout, words: &mem[words_of(&layout, cell)] };
+    let next = next as u64;
+    let cell = (next..shape.cells).chain(0..next).find(|cell| view(*cell).any_ready());
+    let cell = cell.ok_or(Refusal::NothingReady)?;
+    let number = view(cell).next_ready().ok_or(Refusal::NothingReady)?;
+    let words = &mut mem[words_of(&layout, cell)];
+    let label = [cell, number as u64 / shape.bins, number as u64 % shape.bins];
+    let length = send_bin(shape, &layout, words, label, out)?;
+    words[NEXT_BIN] = ((number + 1) % layout.all_bins()) as i64;
+    mem[last] = ((cell + 1) % shape.cells) as i64;
     Ok(length)
 }
 
@@ -205,7 +244,7 @@ pub fn forecast(shape: &Shape, mem: &[i64], cell: u64) -> Result<u32, Refusal> {
 #[inline(never)]
 pub fn page(shape: &Shape, mem: &[i64], out: &mut [u8]) -> Result<usize, Refusal> {
     let layout = host(shape, mem.len())?;
-    let cells = mem[1..].chunks_exact(layout.words()).map(|words| CellRef { layout, words });
+    let cells = mem[CELLS..].chunks_exact(layout.words()).map(|words| CellRef { layout, words });
     let sound = (0..=RUN_LIMIT).contains(&mem[0]) && cells.clone().all(|cell| cell.page_ok());
     check(sound, Refusal::Damaged)?;
     let length = shape.page_length();

@@ -1,4 +1,4 @@
-//! What is timed: ticks, the calls on one cell, pages, and frames.
+//! What is timed: ticks, the calls on one cell, picks, pages, and frames.
 use std::array::from_fn;
 use std::hint::black_box;
 use std::time::{Duration, Instant};
@@ -103,6 +103,54 @@ fn rounds<E: Engine>(engine: &mut E, shape: &Shape, times: usize) -> [f64; 6] {
 pub fn on_a_cell(shape: Shape) -> [Blocks; 6] {
     let (mut proved, mut peer) = (Proved::new(shape), Peer::new(shape));
     in_turn(|times| rounds(&mut proved, &shape, times), |times| rounds(&mut peer, &shape, times))
+}
+
+/// A run whose bins are all Ready, with some ticks in each: picks take the cells in turn, and the bins of each.
+struct Filled<E> {
+    engine: E,
+    shape: Shape,
+    samples: Vec<u8>,
+    out: Vec<u8>,
+    picks: u64,
+}
+
+impl<E: Engine> Filled<E> {
+    fn new(shape: Shape) -> Filled<E> {
+        let samples = Noise::new(13).samples(shape.cells);
+        let out = vec![0; shape.frame_length()];
+        let mut filled = Filled { engine: E::new(shape), shape, samples, out, picks: 0 };
+        (0..2 * shape.bins * shape.cells).for_each(|number| filled.fill(number));
+        filled
+    }
+
+    /// Makes the bin Ready that the pick of this number takes.
+    fn fill(&mut self, number: u64) {
+        let Shape { cells, bins, .. } = self.shape;
+        let (cell, place) = (number % cells, number / cells % (2 * bins));
+        self.engine.tick(&self.samples).expect("a tick");
+        self.engine.dump(cell, Command::Last as u64, place / bins, place % bins, &mut []).expect("a dump");
+        self.engine.integrate(cell).expect("an integration");
+    }
+
+    /// Picks one by one. The bin that each has emptied is filled again, which is not timed.
+    fn picks(&mut self, times: usize) -> [f64; 1] {
+        let mut spent = Duration::ZERO;
+        for _ in 0..times {
+            let start = Instant::now();
+            black_box(self.engine.pick(black_box(&mut self.out))).expect("a pick");
+            spent += start.elapsed();
+            self.fill(self.picks);
+            self.picks += 1;
+        }
+        [spent.as_nanos() as f64 / times as f64]
+    }
+}
+
+/// One pick.
+pub fn pick(shape: Shape) -> Blocks {
+    let (mut proved, mut peer) = (Filled::<Proved>::new(shape), Filled::<Peer>::new(shape));
+    let [blocks] = in_turn(|times| proved.picks(times), |times| peer.picks(times));
+    blocks
 }
 
 /// Every loss of every cell gets numbers of nine digits; six have just less ticks together than a run takes.

@@ -28,7 +28,7 @@ use crate::Refusal;
 pub fn outcome(result: u64) -> Result<u32, Refusal> {
     match (result >> 32) as u32 {
         0 => Ok(result as u32),
-        number => Err(Refusal::from_number(number).expect("the engine gives the numbers 1 to 19")),
+        number => Err(Refusal::from_number(number).expect("the engine gives the numbers 1 to 20")),
     }
 }
 
@@ -71,6 +71,14 @@ mod c {
             cell: u64,
             bank: u64,
             bin: u64,
+            out: *mut u8,
+            out_len: usize,
+        ) -> u64;
+        pub fn lta_pick(
+            shape: *const u64,
+            shape_len: usize,
+            mem: *mut u64,
+            mem_len: usize,
             out: *mut u8,
             out_len: usize,
         ) -> u64;
@@ -202,6 +210,14 @@ pub fn emit(shape: &[u64], mem: &mut [u64], cell: u64, bank: u64, bin: u64, out:
     }
 }
 
+/// A pick: the frame of the Ready bin whose turn it is into the front of `out`; answers the frame's length.
+pub fn pick(shape: &[u64], mem: &mut [u64], out: &mut [u8]) -> u64 {
+    // SAFETY: each slice's own pointer and length; mem and out are two, each lent for this call alone.
+    unsafe {
+        c::lta_pick(shape.as_ptr(), shape.len(), mem.as_mut_ptr(), mem.len(), out.as_mut_ptr(), out.len())
+    }
+}
+
 /// A reading of loss 1 to 6 at one lag: I and Q into `sums`, ticks, edge and centre count into `counts`; answers 0.
 pub fn reading(
     shape: &[u64],
@@ -286,25 +302,27 @@ mod tests {
     #[test]
     fn null_with_length_0() {
         let shape = [1u64, 2, 1, 1, 0, 4, 0];
-        let mut mem = [0u64; 87];
+        let mut mem = [0u64; 90];
         let (numbers, words) = (shape.as_ptr(), mem.as_mut_ptr());
         // SAFETY: arrays with their own lengths, and nothing behind a null pointer.
         unsafe {
             assert_eq!(c::lta_words_needed(null(), 0), 1 << 32);
             assert_eq!(c::lta_setup(numbers, 7, null_mut(), 0), 2 << 32);
-            assert_eq!(c::lta_setup(numbers, 7, words, 87), 0);
-            assert_eq!(c::lta_tick(numbers, 7, words, 87, null(), 0), 3 << 32);
-            assert_eq!(c::lta_dump(numbers, 7, words, 87, 0, 3, 0, 0, null_mut(), 0), 10 << 32);
-            assert_eq!(c::lta_dump(numbers, 7, words, 87, 0, 2, 0, 0, null_mut(), 0), 0);
-            assert_eq!(c::lta_integrate(numbers, 7, words, 87, 0), 0);
-            assert_eq!(c::lta_emit(numbers, 7, words, 87, 0, 0, 0, null_mut(), 0), 10 << 32);
+            assert_eq!(c::lta_setup(numbers, 7, words, 90), 0);
+            assert_eq!(c::lta_tick(numbers, 7, words, 90, null(), 0), 3 << 32);
+            assert_eq!(c::lta_dump(numbers, 7, words, 90, 0, 3, 0, 0, null_mut(), 0), 10 << 32);
+            assert_eq!(c::lta_dump(numbers, 7, words, 90, 0, 2, 0, 0, null_mut(), 0), 0);
+            assert_eq!(c::lta_integrate(numbers, 7, words, 90, 0), 0);
+            assert_eq!(c::lta_emit(numbers, 7, words, 90, 0, 0, 0, null_mut(), 0), 10 << 32);
+            assert_eq!(c::lta_pick(numbers, 7, null_mut(), 0, null_mut(), 0), 2 << 32);
+            assert_eq!(c::lta_pick(numbers, 7, words, 90, null_mut(), 0), 10 << 32);
             assert_eq!(
-                c::lta_reading(numbers, 7, words, 87, 0, 0, 1, null_mut(), 0, null_mut(), 0),
+                c::lta_reading(numbers, 7, words, 90, 0, 0, 1, null_mut(), 0, null_mut(), 0),
                 10 << 32
             );
             assert_eq!(c::lta_forecast(numbers, 7, null(), 0, 0), 2 << 32);
             assert_eq!(c::lta_page(numbers, 7, null(), 0, null_mut(), 0), 2 << 32);
-            assert_eq!(c::lta_page(numbers, 7, words, 87, null_mut(), 0), 10 << 32);
+            assert_eq!(c::lta_page(numbers, 7, words, 90, null_mut(), 0), 10 << 32);
             assert_eq!(c::lta_read_frame(2, null(), 0, null_mut(), 0), 13 << 32);
             assert_eq!(c::lta_lag_part(2, null(), 0), 0);
             assert_eq!(c::lta_write_frame(2, null(), 0, null(), 0, null_mut(), 0), 16 << 32);

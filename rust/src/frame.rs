@@ -1,4 +1,4 @@
-//! Frames: what an emission or a speed dump gives, and what the reader accepts of bytes from elsewhere.
+//! Frames: what an emission, a pick or a speed dump gives, and what the reader accepts of bytes from elsewhere.
 use std::borrow::Cow;
 
 use crate::ffi::{self, outcome};
@@ -21,7 +21,7 @@ use crate::Refusal;
 #[derive(Clone, Copy, Debug, PartialEq, Eq, Hash)]
 #[repr(u32)]
 pub enum Kind {
-    /// The frame of a bin, which an emission gives: 34 + 8N bytes.
+    /// The frame of a bin, which an emission or a pick gives: 34 + 8N bytes.
     Accumulated = 2,
     /// The frame of an open integration, which a speed dump gives: 38 + 8N bytes.
     Speed = 3,

@@ -1,9 +1,10 @@
 //! The lag engine and its long-term accumulator, proved, for programs in Rust.
 //!
-//! A [`Run`] owns its work memory and takes ticks, dumps, integrations and emissions. A [`Frame`] is what an emission
-//! or a speed dump gives, and what the reader accepts of bytes from elsewhere. What is not kept is told by readings,
-//! and in printed lines by a page ([`Run::page`]). A call that is refused gives a [`Refusal`] and changes nothing. What
-//! each call means is in document 01 with the requests up to 2026-06, whose terms are used here.
+//! A [`Run`] owns its work memory and takes ticks, dumps, integrations and emissions, of a bin that is named or of the
+//! one whose turn it is ([`Run::pick`]). A [`Frame`] is what an emission or a speed dump gives, and what the reader
+//! accepts of bytes from elsewhere. What is not kept is told by readings, and in printed lines by a page
+//! ([`Run::page`]). A call that is refused gives a [`Refusal`] and changes nothing. What each call means is in
+//! document 01 with the requests up to 2026-07, whose terms are used here.
 //!
 //! The work is done by a static library that is proved to do it ([`ffi`] is its C interface over slices); this crate
 //! adds types and owns the memory. The library keeps nothing between calls, so that all of a run is its shape and its
@@ -21,7 +22,7 @@
 //! }
 //! run.dump(0, Command::Last, 0, 0)?;
 //! run.integrate(0)?;
-//! let frame = run.emit_frame(0, 0, 0)?;
+//! let frame = run.pick_frame()?;
 //! assert_eq!(frame.fields().ticks, 3);
 //! assert_eq!(frame.lags().collect::<Vec<_>>(), [(6, 0), (10, 0)]);
 //! # Ok(())

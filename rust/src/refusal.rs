@@ -53,11 +53,13 @@ pub enum Refusal {
     WrongBias = 18,
     /// A validity byte has another bit set than its lowest two.
     BadValidity = 19,
+    /// No cell has a Ready bin.
+    NothingReady = 20,
 }
 
 impl Refusal {
-    /// Every refusal, in the order 1 to 19.
-    pub const ALL: [Refusal; 19] = [
+    /// Every refusal, in the order 1 to 20.
+    pub const ALL: [Refusal; 20] = [
         Refusal::BadShape,
         Refusal::WrongMemory,
         Refusal::WrongSamples,
@@ -77,14 +79,15 @@ impl Refusal {
         Refusal::BadRecord,
         Refusal::WrongBias,
         Refusal::BadValidity,
+        Refusal::NothingReady,
     ];
 
-    /// The refusal's number, 1 to 19.
+    /// The refusal's number, 1 to 20.
     pub fn number(self) -> u32 {
         self as u32
     }
 
-    /// The refusal of a number; none but for 1 to 19.
+    /// The refusal of a number; none but for 1 to 20.
     pub fn from_number(number: u32) -> Option<Refusal> {
         let place = number.checked_sub(1)?;
         Refusal::ALL.get(usize::try_from(place).ok()?).copied()
@@ -111,6 +114,7 @@ impl Refusal {
             Refusal::BadRecord => "unknown mark or a cut record",
             Refusal::WrongBias => "wrong DATA_BIAS",
             Refusal::BadValidity => "a validity byte has another bit set",
+            Refusal::NothingReady => "no cell has a Ready bin",
         }
     }
 }

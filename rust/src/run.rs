@@ -62,7 +62,7 @@ impl Run {
     /// let mut resumed = Run::resume(shape, saved)?;
     /// resumed.tick(&[0x01, 0x0f, 0b11])?;
     /// assert_eq!(resumed, run);
-    /// assert_eq!(Run::resume(shape, vec![0; 86]), Err(Refusal::WrongMemory));
+    /// assert_eq!(Run::resume(shape, vec![0; 89]), Err(Refusal::WrongMemory));
     /// # Ok::<(), Refusal>(())
     /// ```
     pub fn resume(shape: Shape, words: Vec<u64>) -> Result<Run, Refusal> {
@@ -84,7 +84,7 @@ impl Run {
     /// # let shape = lta::Shape { cells: 1, lags: 2, bins: 1, blocks: 1, start: 0, rate: 4, second: 0 };
     /// let mut run = lta::Run::new(shape)?;
     /// run.tick(&[0, 0, 0])?;
-    /// assert_eq!((run.words().len(), run.words()[0]), (87, 1));
+    /// assert_eq!((run.words().len(), run.words()[0]), (90, 1));
     /// # Ok::<(), lta::Refusal>(())
     /// ```
     pub fn words(&self) -> &[u64] {
@@ -221,6 +221,63 @@ impl Run {
         Frame::from_vec(self.shape.lags, bytes)
     }
 
+    /// A pick: an emission of the Ready bin whose turn it is, into the front of `out`, whose other bytes stay. Gives
+    /// the frame's length. Refuses 20, 10.
+    ///
+    /// Cells take turns, and so do the bins of a cell. From the cell after the last one served, cell 0 in a fresh run,
+    /// and going round, the first cell with a Ready bin is served. Within it the bins of bank 0 and then those of bank
+    /// 1 go round, from after the bin last picked in that cell, at first from bank 0, bin 0. The cell last served and
+    /// the bin last picked are the last candidates of their rounds, not left out. Only an accepted pick moves these
+    /// places: that of the run, and that of the cell it served. An [`emit`](Run::emit), which names its bin, moves
+    /// none. So a Ready bin is emitted within C × 2B accepted picks, whatever other calls stand between.
+    ///
+    /// ```
+    /// # use lta::{Command, Refusal, Run, Shape};
+    /// # let shape = Shape { cells: 1, lags: 2, bins: 1, blocks: 1, start: 0, rate: 4, second: 0 };
+    /// let mut run = Run::new(shape)?;
+    /// run.dump(0, Command::Last, 1, 0)?;
+    /// run.integrate(0)?;
+    /// let mut out = [0; 60];
+    /// assert_eq!(run.pick(&mut out[..49]), Err(Refusal::ShortBuffer));
+    /// assert_eq!(run.pick(&mut out), Ok(50));
+    /// assert_eq!(out[..2], *b"LT");
+    /// assert_eq!(run.pick(&mut out), Err(Refusal::NothingReady));
+    /// # Ok::<(), Refusal>(())
+    /// ```
+    pub fn pick(&mut self, out: &mut [u8]) -> Result<usize, Refusal> {
+        outcome(ffi::pick(&self.numbers, &mut self.words, out)).map(|length| length as usize)
+    }
+
+    /// A [`pick`](Run::pick) as a frame of its own, whose fields tell cell, bank and data bin. Refuses 20.
+    ///
+    /// A loop that sends all that is Ready:
+    ///
+    /// ```
+    /// # use lta::{Command, Refusal, Run, Shape};
+    /// # let shape = Shape { cells: 2, lags: 2, bins: 2, blocks: 1, start: 0, rate: 4, second: 0 };
+    /// let mut run = Run::new(shape)?;
+    /// for (cell, bank, phase) in [(0, 1, 0), (0, 0, 1), (0, 0, 0), (1, 0, 1)] {
+    ///     run.dump(cell, Command::Last, bank, phase)?;
+    ///     run.integrate(cell)?;
+    /// }
+    /// let mut sent = Vec::new();
+    /// loop {
+    ///     match run.pick_frame() {
+    ///         Ok(frame) => sent.push(frame),
+    ///         Err(Refusal::NothingReady) => break,
+    ///         Err(refusal) => return Err(refusal),
+    ///     }
+    /// }
+    /// let bins: Vec<_> = sent.iter().map(|f| (f.fields().cell, f.fields().bank, f.fields().bin)).collect();
+    /// assert_eq!(bins, [(0, 0, 0), (1, 0, 1), (0, 0, 1), (0, 1, 0)]);
+    /// # Ok::<(), Refusal>(())
+    /// ```
+    pub fn pick_frame(&mut self) -> Result<Frame<'static>, Refusal> {
+        let mut bytes = vec![0; self.shape.frame_length()];
+        self.pick(&mut bytes)?;
+        Frame::from_vec(self.shape.lags, bytes)
+    }
+
     /// A reading of one loss of one cell at one lag. It changes nothing. Refuses 5, 12.
     ///
     /// ```
@@ -248,8 +305,8 @@ impl Run {
     /// A forecast of n holds up to the cell's next accepted dump but 111. Until then the next n accepted ticks join
     /// the cell's Open, and none of them counts the cell among those held off. Each accepted tick after them does, and
     /// goes to [`Loss::Holdoff`]. Refused calls make no difference, nor do calls on other cells, nor the cell's own
-    /// integrations, emissions, readings, forecasts and 111, nor pages. The end of the run is not taken into account:
-    /// where it comes first, ticks are refused by 4.
+    /// integrations, emissions, readings, forecasts and 111, nor picks and pages. The end of the run is not taken into
+    /// account: where it comes first, ticks are refused by 4.
     ///
     /// So no tick is held off where the host dumps when the forecast is 0, or, if it asks only once in so many ticks,
     /// when the forecast is below their number:

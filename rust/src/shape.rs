@@ -7,7 +7,7 @@ use crate::{ffi, Refusal};
 /// use lta::{Refusal, Shape};
 ///
 /// let shape = Shape { cells: 1, lags: 2, bins: 1, blocks: 1, start: 0, rate: 4, second: 0 };
-/// assert_eq!(shape.words_needed(), Ok(87));
+/// assert_eq!(shape.words_needed(), Ok(90));
 /// assert_eq!(Shape { lags: 3, ..shape }.words_needed(), Err(Refusal::BadShape));
 /// ```
 #[derive(Clone, Copy, Debug, PartialEq, Eq, Hash)]

@@ -16,6 +16,8 @@ struct Turn {
     dumped: Result<Moved, Refusal>,
     integrated: Result<Moved, Refusal>,
     frame: Result<Frame<'static>, Refusal>,
+    /// A pick in one turn of twelve.
+    picked: Option<Result<Frame<'static>, Refusal>>,
     readings: Vec<Result<Sums, Refusal>>,
     forecast: Result<u32, Refusal>,
     page: Result<String, Refusal>,
@@ -31,6 +33,7 @@ fn turn(run: &mut Run, number: u64) -> Turn {
         dumped: run.dump(cell, command, bank, phase),
         integrated: run.integrate(u64::from(x[1]) % 3),
         frame: run.emit_frame(cell, bank, SHAPE.blocks * phase + offset),
+        picked: (number % 12 == 0).then(|| run.pick_frame()),
         readings: pairs.map(|(lag, loss)| run.reading(cell, lag, loss)).collect(),
         forecast: run.forecast(cell),
         page: run.page(),
@@ -61,17 +64,19 @@ fn a_resumed_run_goes_on_as_if_it_had_never_stopped() {
     let path = file("run-words");
     let mut whole = Run::new(SHAPE).unwrap();
     save(&path, Run::new(SHAPE).unwrap().words());
-    let (mut frames, mut speeds) = (0, 0);
+    let (mut frames, mut picks, mut speeds) = (0, 0, 0);
     for number in 0..600 {
         let mut part = Run::resume(SHAPE, saved(&path)).unwrap();
         let expected = turn(&mut whole, number);
         assert_eq!(turn(&mut part, number), expected, "turn {number}");
         assert_eq!(part, whole, "turn {number}");
         frames += u32::from(expected.frame.is_ok_and(|frame| frame.fields().ticks > 0));
+        picks += u32::from(matches!(expected.picked, Some(Ok(frame)) if frame.fields().ticks > 0));
         speeds += u32::from(matches!(expected.dumped, Ok(Moved::Sent(frame)) if frame.fields().ticks > 0));
         save(&path, part.words());
     }
-    assert!(frames > 20 && speeds > 20, "{frames} frames and {speeds} speed frames with ticks");
+    let least = frames.min(picks).min(speeds);
+    assert!(least > 20, "{frames} frames, {picks} picked ones and {speeds} speed frames with ticks");
     fs::remove_file(&path).unwrap();
 }
 
@@ -106,6 +111,7 @@ fn damaged_words_are_found_by_the_calls() {
     let before = run.clone();
     assert_eq!(run.tick(&[0; 6]), Err(Refusal::Damaged));
     assert_eq!(run.integrate(0), Err(Refusal::Damaged));
+    assert_eq!(run.pick_frame(), Err(Refusal::Damaged));
     assert_eq!(run.forecast(0), Err(Refusal::Damaged));
     assert_eq!(run.page(), Err(Refusal::Damaged));
     assert_eq!(run, before);

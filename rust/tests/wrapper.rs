@@ -1,4 +1,6 @@
 //! The safe types beside the C interface that they stand on: the same answers, the same words of memory.
+use std::collections::BTreeSet;
+
 use lta::{ffi, Command, Fields, Frame, Kind, Loss, Moved, Refusal, Run, Shape, Sums};
 
 const SHAPE: Shape = Shape { cells: 2, lags: 6, bins: 4, blocks: 2, start: 3, rate: 10, second: 100 };
@@ -69,6 +71,24 @@ impl Both {
                 again(&frame, Kind::Accumulated);
             }
             Err(refusal) => assert_eq!(direct, Err(refusal)),
+        }
+    }
+
+    /// The bin whose turn it is, if there is one, in a buffer with room for some bytes more.
+    fn pick(&mut self) -> Option<(u32, u32, u32)> {
+        let mut out = [b'.'; 90];
+        let direct = ffi::outcome(ffi::pick(&self.shape, &mut self.mem, &mut out));
+        match self.run.pick_frame() {
+            Ok(frame) => {
+                assert_eq!((direct, frame.bytes(), &out[82..]), (Ok(82), &out[..82], &[b'.'; 8][..]));
+                again(&frame, Kind::Accumulated);
+                let &Fields { cell, bank, bin, .. } = frame.fields();
+                Some((cell, bank, bin))
+            }
+            Err(refusal) => {
+                assert_eq!((direct, out), (Err(refusal), [b'.'; 90]));
+                None
+            }
         }
     }
 
@@ -147,7 +167,7 @@ fn a_run_is_its_calls() {
     let commands =
         [Command::Add, Command::Save, Command::Last, Command::Speed, Command::Discard, Command::Idle];
     let mut both = Both::new();
-    let mut moves = Vec::new();
+    let (mut moves, mut picked) = (Vec::new(), BTreeSet::new());
     for turn in 0..4000u64 {
         let x = turn.wrapping_mul(0x9e37_79b9_7f4a_7c15).rotate_left(20).to_le_bytes();
         both.tick(&samples(turn, x));
@@ -156,6 +176,9 @@ fn a_run_is_its_calls() {
         moves.extend(both.dump(cell, command, bank, phase));
         moves.extend(both.integrate(u64::from(x[1]) % 3));
         both.emit(cell, bank, SHAPE.blocks * phase + offset);
+        if turn % 3 == 0 {
+            picked.extend(both.pick());
+        }
         assert_eq!(both.run.words(), both.mem);
         let direct = ffi::outcome(ffi::forecast(&both.shape, &both.mem, cell));
         assert_eq!(both.run.forecast(cell), direct);
@@ -171,6 +194,56 @@ fn a_run_is_its_calls() {
     let speed = |moved: &&Moved| matches!(moved, Moved::Sent(frame) if frame.fields().ticks > 0);
     let speeds = moves.iter().filter(speed).count();
     assert!(speeds > 100, "{speeds} speed frames with ticks");
+    assert!(picked.len() > 12, "{picked:?} of 16 bins");
+}
+
+/// Bins of both cells and banks in the order in which they are picked: in a lent buffer or in one of its own it is the
+/// same frame, and the runs are the same behind it. A refused pick changes neither the run nor the buffer.
+#[test]
+fn picks_until_nothing_is_ready() {
+    let mut run = Run::new(SHAPE).unwrap();
+    for (cell, bank, phase) in [(1, 1, 0), (1, 0, 1), (1, 1, 1), (0, 1, 1)] {
+        run.tick(&[0x03; 6]).unwrap();
+        run.dump(cell, Command::Last, bank, phase).unwrap();
+        run.integrate(cell).unwrap();
+    }
+    let mut bins = Vec::new();
+    let mut out = [b'.'; 90];
+    while let Ok(frame) = run.clone().pick_frame() {
+        let before = run.clone();
+        assert_eq!(run.pick(&mut out[..81]), Err(Refusal::ShortBuffer));
+        assert_eq!((&run, out), (&before, [b'.'; 90]));
+        assert_eq!(run.pick(&mut out), Ok(SHAPE.frame_length()));
+        assert_eq!((&out[..82], &out[82..]), (frame.bytes(), &[b'.'; 8][..]));
+        out = [b'.'; 90];
+        bins.push((frame.fields().cell, frame.fields().bank, frame.fields().bin));
+    }
+    // Block 3 is the first: with two of them a 010 behind a 010 goes to the other data bin of its phase bin.
+    assert_eq!(bins, [(0, 1, 2), (1, 0, 3), (1, 1, 0), (1, 1, 2)]);
+    let before = run.clone();
+    for room in [0, 81, 82, 90] {
+        assert_eq!(run.pick(&mut out[..room]), Err(Refusal::NothingReady), "20 comes before 10");
+    }
+    assert_eq!(run.pick_frame(), Err(Refusal::NothingReady));
+    assert_eq!((run, out), (before, [b'.'; 90]));
+}
+
+/// The number of Ready bins of a cell, its place and the run's place: out of their limits no pick, while an emission
+/// looks at the number alone.
+#[test]
+fn picks_of_damaged_words() {
+    let mut run = Run::new(SHAPE).unwrap();
+    run.dump(0, Command::Last, 0, 0).unwrap();
+    run.integrate(0).unwrap();
+    let last = run.words().len() - 1;
+    for (at, word, emitted) in [(last, 2, true), (9, 0, false), (9, 2, true), (9, 9, false), (10, 8, true)] {
+        let mut words = run.words().to_vec();
+        words[at] = word;
+        let damaged = Run::resume(SHAPE, words).unwrap();
+        assert_eq!(damaged.clone().pick_frame(), Err(Refusal::Damaged), "word {at} as {word}");
+        assert_eq!(damaged.clone().pick(&mut []), Err(Refusal::Damaged), "11 comes before 10");
+        assert_eq!(damaged.clone().emit_frame(0, 0, 0).is_ok(), emitted, "word {at} as {word}");
+    }
 }
 
 /// What is open with Held occupied: in a lent buffer or in one of its own it is the same frame, and the runs are the
@@ -259,7 +332,7 @@ fn a_page_of_damaged_words() {
     let row = 3 + 2 * SHAPE.lags as usize;
     let mut words = Run::new(SHAPE).unwrap().words().to_vec();
     for (loss, ticks) in [(0, 2_147_483_647), (5, 1), (5, 2)] {
-        words[9 + (2 + loss) * row] = ticks;
+        words[11 + (2 + loss) * row] = ticks;
         let run = Run::resume(SHAPE, words.clone()).unwrap();
         let page = if ticks == 2 { Err(Refusal::Damaged) } else { Ok(page_of(&run)) };
         assert_eq!(run.page(), page, "{ticks} ticks in loss {}", loss + 1);
@@ -275,7 +348,7 @@ fn refusals_have_their_numbers() {
         assert_eq!((refusal.number(), Refusal::from_number(number)), (number, Some(refusal)));
         assert!(refusal.to_string().starts_with(&format!("refusal {number}: ")));
     }
-    assert_eq!([0, 20, u32::MAX].map(Refusal::from_number), [None; 3]);
+    assert_eq!([0, 21, u32::MAX].map(Refusal::from_number), [None; 3]);
 }
 
 #[test]

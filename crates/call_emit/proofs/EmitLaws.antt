@@ -45,6 +45,7 @@ emits s mem c bank bin out e =
       named = record { banked = p .inBanks; numbered = p .inBins };
       limited = p .time;
       sound = p .sound;
+      some = p .some;
       room = p .room;
     }
 

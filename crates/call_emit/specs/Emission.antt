@@ -7,11 +7,12 @@ use lib.ListN.{length}
 use Rattle.lta_spec.specs.Shape.{runLimit}
 use Rattle.lta_spec.specs.Frame.{accumulated, frameLength}
 use Rattle.lta_spec.specs.Call.{binIndex}
-use Rattle.lta_spec.specs.Engine.{binAt, emptyBin}
+use Rattle.lta_spec.specs.Engine.{binAt}
 use Rattle.lta_spec.specs.Damage.{emitSound}
 use Rattle.lta_spec.specs.Memory.{Run}
-use Rattle.lta_spec.specs.Step.{cellAt, withCell, rowFrame}
+use Rattle.lta_spec.specs.Step.{unitAt, cellAt, withUnit, rowFrame}
 use Rattle.lta_spec.specs.declared.Shape.{Shape}
+use Rattle.cell_ready.specs.Taken.{taken}
 use Rattle.call_run.specs.Runs.{Celled, runOf}
 use Rattle.call_emit_tests.specs.Bins.{Named}
 
@@ -20,6 +21,7 @@ pub record EmitsFrom (s : Shape) (mem : List ℕ) (c bank bin : ℕ) (out : List
   pub named : Named s bank bin
   pub limited : (runOf s mem) .t ≤ runLimit
   pub sound : emitSound (s .lags) ((runOf s mem) .t) (binIndex (s .bins) bank bin) (cellAt s c (runOf s mem)) ≡ true
+  pub some : 1 ≤ (unitAt s c (runOf s mem)) .picks .readyBins
   pub room : frameLength accumulated (s .lags) ≤ length out
 
 -- the frame of the bin
@@ -29,4 +31,4 @@ frameAt s c bank bin r =
 
 -- the run without what the frame took
 abbrev pub emitted : Shape → (c bank bin : ℕ) → Run → Run
-emitted s c bank bin r = withCell s c (emptyBin (s .lags) (binIndex (s .bins) bank bin) (cellAt s c r)) r
+emitted s c bank bin r = withUnit s c (taken (s .lags) (binIndex (s .bins) bank bin) (unitAt s c r)) r

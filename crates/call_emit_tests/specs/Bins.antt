@@ -7,9 +7,9 @@ use Rattle.lta_spec.specs.Place.{ready}
 use Rattle.lta_spec.specs.Frame.{accumulated, frameLength}
 use Rattle.lta_spec.specs.Call.{binIndex}
 use Rattle.lta_spec.specs.Engine.{binAt}
-use Rattle.lta_spec.specs.Damage.{emitSound}
+use Rattle.lta_spec.specs.Damage.{emitUnitSound}
 use Rattle.lta_spec.specs.Memory.{Run}
-use Rattle.lta_spec.specs.Step.{cellAt, soundAt}
+use Rattle.lta_spec.specs.Step.{unitAt, cellAt, soundAt}
 use Rattle.lta_spec.specs.declared.Shape.{Shape}
 use Rattle.lta_spec.specs.declared.Refusal.the-variants.{NotReady, ShortBuffer}
 
@@ -22,7 +22,7 @@ pub record Named (s : Shape) (bank bin : ℕ) : Type 0 where
 abbrev pub binTests : Shape → (c bank bin room : ℕ) → Run → List Test
 binTests s c bank bin room r =
     let k = binIndex (s .bins) bank bin in
-    soundAt s (emitSound (s .lags) (r .t) k (cellAt s c r)) r
+    soundAt s (emitUnitSound (s .lags) (s .bins) (r .t) k (unitAt s c r)) r
     ∷ test (eqb ((binAt (s .lags) k (cellAt s c r)) .state) ready) NotReady
     ∷ test (leb (frameLength accumulated (s .lags)) room) ShortBuffer
     ∷ []

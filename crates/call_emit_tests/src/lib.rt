@@ -8,6 +8,7 @@ use cell_bins::bin_number;
 use cell_bins::bin_ok;
 use cell_layout::READY;
 use cell_layout::bin_start;
+use cell_ready::number_fits;
 use frame_header::frame_length;
 use lta_spec::ACCUMULATED;
 use lta_spec::Refusal;
@@ -30,13 +31,14 @@ fn bin_verdict(s: Shape, mem: &[u64], c: u64, bank: u64, bin: u64, room: usize) 
     let t = time_of(s, mem);
     let part = cell_part(s, mem, c);
     let k = bin_number(bank, bin, bins);
-    let parts = bin_ok(part, n, bins, t, k);
+    let bin_sound = bin_ok(part, n, bins, t, k);
+    let number = number_fits(part, n, bins, k);
     let at = bin_start(n, bins, k);
     let ready = part[at] == READY;
     let fits = frame_length(ACCUMULATED, s.lags) <= room as u64;
     sound_tested(
         t,
-        parts,
+        bin_sound & number,
         tested(
             ready,
             Refusal::NotReady,

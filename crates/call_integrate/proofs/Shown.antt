@@ -16,7 +16,7 @@ use Rattle.call_run.proofs.StepLaws.{cell-shown, sound-shown}
 
 pub record IntegratesAt (s : Shape) (mem : List ℕ) (c : ℕ) : Type 0 where
   pub cell : Celled s mem c
-  pub sound : D.integrateSound (s .lags) (s .bins) ((runOf s mem) .t) (S.cellAt s c (runOf s mem)) ≡ true
+  pub sound : D.integrateUnitSound (s .lags) (s .bins) ((runOf s mem) .t) (S.unitAt s c (runOf s mem)) ≡ true
   pub occupied : (S.cellAt s c (runOf s mem)) .held .occupied ≡ 1
 
 pub integrates : (s : Shape) (mem : List ℕ) (c : ℕ) → Accepted ≡ S.verdict s mem (integrate c) → IntegratesAt s mem c
@@ -24,6 +24,6 @@ unfolding S.verdict runOf
 integrates s mem c e =
     let r = runOf s mem in
     let x = cell-shown s mem c _ e in
-    let y = sound-shown (r .t) (D.integrateSound (s .lags) (s .bins) (r .t) (S.cellAt s c r)) _ (x .1) in
+    let y = sound-shown (r .t) (D.integrateUnitSound (s .lags) (s .bins) (r .t) (S.unitAt s c r)) _ (x .1) in
     let z = pass (eqb ((S.cellAt s c r) .held .occupied) 1) _ _ (y .2) in
     record { cell = x .0; sound = y .1; occupied = eqb-true _ _ (z .0) }

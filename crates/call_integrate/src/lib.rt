@@ -5,8 +5,8 @@ use call_run::cell_verdict;
 use call_run::sound_tested;
 use call_run::tested;
 use call_run::time_of;
-use cell_accum::integrate_cell;
-use cell_accum_tests::integrate_sound;
+use cell_integrate::integrate_unit;
+use cell_integrate::integrate_unit_sound;
 use cell_layout::OCCUPIED;
 use lta_spec::Moved;
 use lta_spec::Refusal;
@@ -27,7 +27,7 @@ fn integrate_verdict(s: Shape, mem: &[u64], c: u64) -> Verdict
         Verdict::Accepted => {
             let t = time_of(s, mem);
             let part = cell_part(s, mem, c);
-            let parts = integrate_sound(part, s.lags as usize, s.bins as usize, t);
+            let parts = integrate_unit_sound(part, s.lags as usize, s.bins as usize, t);
             let held = part[OCCUPIED] == 1;
             sound_tested(
                 t,
@@ -50,7 +50,7 @@ pub fn integrate(s: Shape, mem: &mut [u64], cell: u64) -> Moved
             let bins = s.bins as usize;
             let at = cell_start(s, &*mem, cell);
             let e = at + cell_words(n, bins);
-            integrate_cell(&mut mem[at..e], n, bins)
+            integrate_unit(&mut mem[at..e], n, bins)
         }
     }
 }

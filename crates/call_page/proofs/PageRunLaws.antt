@@ -135,7 +135,7 @@ module _ (n B : ℕ) (us : List Unit) (ok : All (UnitOk n B) us) (few : length u
 module _ (s : Shape) (mem out : List ℕ) (p : PagesInto s mem out) where
   pub units-ok : All (UnitOk (s .lags) (s .bins)) ((runOf s mem) .units)
   unfolding runOf
-  units-ok = (run-law s) .fits mem (omega (arith, whole s mem (p .hosted) .size)) .1 .1
+  units-ok = (run-law s) .fits mem (omega (arith, whole s mem (p .hosted) .size)) .1 .0 .1
 
   pub units-few : length ((runOf s mem) .units) ≤ 16
   units-few = omega (arith, units-length s mem (p .hosted), shape-is s mem (p .hosted) .cells)

@@ -2,7 +2,7 @@
 use mathlib.Core.Path.{_≡_, refl, sym, _∙_}
 use mathlib.Core.Bool.{true}
 use mathlib.Core.List.{List}
-use Prim.Native.Nat.{ℕ, suc, _+_, _*_, _<_, _≤_}
+use Prim.Native.Nat.{ℕ, suc, _+_, _*_, _-_, _<_, _≤_}
 use native.Mathlib.Nat.{suc-mul, mul-le-mul-right}
 use native.Mathlib.Omega.{arith}
 use lib.Dec.{eqb}
@@ -17,10 +17,10 @@ use Rattle.lta_spec.proofs.TestLaws.{pass}
 use Rattle.lta_spec.proofs.ShapeLaws.{Shaped, shaped, all-small}
 use Rattle.lta_spec.proofs.MemoryLaws.{unit-law, unit-width, run-law, run-width}
 use Rattle.cell_layout.specs.Lays.{Lays}
-use Rattle.cell_layout.specs.Offsets.{timeAt, cellAt}
+use Rattle.cell_layout.specs.Offsets.{timeAt, nextCellAt, cellAt}
 use Rattle.cell_layout.specs.Cells.{unitOf}
 use Rattle.cell_layout.proofs.LaysLaws.{lays, lays-part, word-of}
-use Rattle.cell_layout.proofs.Fields.{time, cell}
+use Rattle.cell_layout.proofs.Fields.{time, nextCell, cell}
 use Rattle.call_run.specs.Runs.{Hosted, Celled, runOf, Starts, CellPart}
 
 module _ (s : Shape) (mem : List ℕ) (h : Hosted s mem) where
@@ -49,10 +49,18 @@ module _ (s : Shape) (mem : List ℕ) (h : Hosted s mem) where
   unfolding memoryWords
   some-words = omega (arith, length-is)
 
+  -- the run's place of picks
+  pub next-last : nextCellAt (s .lags) (s .bins) (s .cells) ≡ length mem - 1
+  unfolding memoryWords
+  next-last = omega (arith, length-is)
+
+  pub next-is : getD mem (length mem - 1) 0 ≡ (runOf s mem) .next
+  next-is = rw (← next-last) (word-of whole (nextCell s))
+
   -- as many cells as the shape says
   pub units-length : length ((runOf s mem) .units) ≡ s .cells
   unfolding runOf
-  units-length = (run-law s) .fits mem (omega (arith, whole .size)) .1 .0
+  units-length = (run-law s) .fits mem (omega (arith, whole .size)) .1 .0 .0
 
 module _ {s : Shape} {mem : List ℕ} {c : ℕ} (q : Celled s mem c) where
   pub starts : Starts s mem c (cellAt (s .lags) (s .bins) c)
@@ -62,7 +70,7 @@ module _ {s : Shape} {mem : List ℕ} {c : ℕ} (q : Celled s mem c) where
       let m : suc c * K ≤ s .cells * K = mul-le-mul-right K (q .there) in
       record { is = refl; inside = omega (arith, length-is s mem (q .hosted), suc-mul c K) }
 
-  pub small : cellAt (s .lags) (s .bins) c + cellWords (s .lags) (s .bins) ≤ 9600001
+  pub small : cellAt (s .lags) (s .bins) c + cellWords (s .lags) (s .bins) ≤ 9600002
   unfolding memoryWords
   small =
       omega (arith, length-is s mem (q .hosted), all-small s (shape-is s mem (q .hosted)), starts .inside)

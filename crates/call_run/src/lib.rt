@@ -1,4 +1,6 @@
-// What the calls on a run share: t and the words of a cell in work memory, and the first tests.
+// What the calls on a run share: t, the run's place of picks and the words of a cell in work memory, and the first
+// tests.
+use cell_layout::CELLS;
 use cell_layout::RUN_LIMIT;
 use cell_layout::TIME;
 use lta_spec::Refusal;
@@ -22,12 +24,20 @@ pub fn time_of(s: Shape, mem: &[u64]) -> u64
     mem[TIME]
 }
 
+// The cell at which the next pick starts: the last word.
+pub fn next_of(s: Shape, mem: &[u64]) -> u64
+    requires { ⌜ Hosted s (now mem) ⌝ }
+    ensures { λ r. ⌜ r ≡ (runOf s (now (mem .entry))) .next ⌝ }
+{
+    mem[mem.len() - 1]
+}
+
 // Where the words of cell c start: the cells stand behind t.
 pub fn cell_start(s: Shape, mem: &[u64], c: u64) -> usize
     requires { ⌜ Celled s (now mem) c ⌝ }
     ensures { λ r. ⌜ Starts s (now (mem .entry)) c r ⌝ }
 {
-    1 + c as usize * cell_words(s.lags as usize, s.bins as usize)
+    CELLS + c as usize * cell_words(s.lags as usize, s.bins as usize)
 }
 
 // The words of cell c.

@@ -23,6 +23,7 @@ sentBy s t u =
     record {
       cell = sendOpen (s .lags) t (u .cell);
       counter = counted (s .blocks) speed (u .counter);
+      picks = u .picks;
       xs = u .xs;
       ys = u .ys;
     }

@@ -80,7 +80,7 @@ one-at-most {s} {c} {x} {y} {r} q = rw (q .held-off) (by-room (hasRoom (s .lags)
 -- the run when the first c cells have taken their samples
 abbrev pub runTo : Shape → (mem₀ samples : List ℕ) → (c : ℕ) → Run
 runTo s mem₀ samples c =
-    let r = runOf s mem₀ in record { t = r .t; units = tickedTo (s .lags) c samples (r .units) }
+    let r = runOf s mem₀ in record { t = r .t; next = r .next; units = tickedTo (s .lags) c samples (r .units) }
 
 module _ (s : Shape) (mem₀ : List ℕ) (h : Hosted s mem₀) (samples : List ℕ) (c : ℕ) (mem : List ℕ)
     (l : Lays (runL s) mem (runTo s mem₀ samples c)) where
@@ -115,7 +115,8 @@ module _ (s : Shape) (mem₀ : List ℕ) (h : Hosted s mem₀) (samples : List �
     has-ticked held vs q =
         let r = runOf s mem₀ in
         let next = ticked-next (s .lags) c samples (r .units) _ inside in
-        lays-to (q .words) (rw (unit-is, run-is) (ap (λ (us : List Unit). record { t = r .t; units = us }) next))
+        lays-to (q .words)
+        (rw (unit-is, run-is) (ap (λ (us : List Unit). record { t = r .t; next = r .next; units = us }) next))
 
     pub held-more : (held more x y : ℕ) (vs : List ℕ) → held ≡ heldOff s (take c ((runOf s mem₀) .units))
         → TickedAt s c x y (runOf s mem) more vs → held + more ≡ heldOff s (take (suc c) ((runOf s mem₀) .units))

@@ -29,4 +29,8 @@ pub record Ticks (s : Shape) (mem : List ℕ) (c : ℕ) : Type 0 where
 pub record TickedAt (s : Shape) (c x y : ℕ) (run : Run) (held : ℕ) (mem : List ℕ) : Type 0 where
   pub held-off : held ≡ cond (hasRoom (s .lags) ((unitAt s c run) .cell)) 0 1
   pub words : Lays (runL s) mem
-      (record { t = run .t; units = set (run .units) c (tickUnit (s .lags) x y (unitAt s c run)) })
+      (record {
+        t = run .t;
+        next = run .next;
+        units = set (run .units) c (tickUnit (s .lags) x y (unitAt s c run));
+      })

@@ -42,6 +42,7 @@ fn tick_cells(s: Shape, mem: &mut [u64], samples: &[u8]) -> u64
         × Lays (runL s) (now (mem .exit))
         (record {
           t = (runOf s (now (mem .entry))) .t;
+          next = (runOf s (now (mem .entry))) .next;
           units = tickUnits s (now (samples .entry)) ((runOf s (now (mem .entry))) .units);
         }) ⌝ }
 {

@@ -6,7 +6,7 @@ use Prim.Native.Nat.{ℕ, suc, _<_, _≤_}
 use lib.Dec.{leb, ltb, eqb}
 use lib.ListN.{getD, set}
 use native.Mathlib.Omega.{arith}
-use borrow.Author.Tests.{ltb-true, eqb-true, eq-eqb, ne-eqb, lt-ltb, le-ltb}
+use borrow.Author.Tests.{ltb-true, eqb-true, eq-eqb, ne-eqb}
 use Rattle.lta_spec.specs.Call.{add, last, speed, discard, idle}
 use Rattle.lta_spec.specs.Engine as E
 use Rattle.lta_spec.specs.Damage.{counterOk}
@@ -25,14 +25,10 @@ module _ (blocks command offset code : ℕ) where
   unfolding E.offsetAfter
   back e = sym (rw e)
 
-  module _ (e : E.resets command code ≡ false) where
-    pub one-on : suc offset < blocks → suc offset ≡ E.offsetAfter blocks command (counterOf offset code)
-    unfolding E.offsetAfter
-    one-on h = sym (rw (e, lt-ltb (suc offset) blocks h))
-
-    pub round : blocks ≤ suc offset → 0 ≡ E.offsetAfter blocks command (counterOf offset code)
-    unfolding E.offsetAfter
-    round h = sym (rw (e, le-ltb (suc offset) blocks h))
+  pub on : E.resets command code ≡ false
+      → E.after blocks offset ≡ E.offsetAfter blocks command (counterOf offset code)
+  unfolding E.offsetAfter
+  on e = sym (rw e)
 
 -- the command that is kept is no higher than 001 or the command
 pub kept-small : (command : ℕ) → E.keptAs command ≤ suc command

@@ -6,6 +6,7 @@ use cell_layout::IDLE;
 use cell_layout::LAST;
 use cell_layout::LAST_COMMAND;
 use cell_layout::SPEED;
+use cell_layout::place_after;
 ghost use mathlib.Core.Path.{_≡_};
 ghost use mathlib.Core.Bool.{true};
 ghost use Prim.Native.Nat.{_<_, _≤_};
@@ -39,10 +40,7 @@ fn offset_after(blocks: u64, command: u64, offset: u64, code: u64) -> u64
     if resets(command, code) {
         return 0;
     }
-    if offset + 1 < blocks {
-        return offset + 1;
-    }
-    0
+    place_after(blocks, offset)
 }
 
 // The command that is kept as the last one: 001 for 011.

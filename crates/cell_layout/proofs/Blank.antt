@@ -54,14 +54,16 @@ blank-unit n bins =
     let losses = blank-many (block (rowWords n)) row lossCount in
     let rows = blank-pair _ _ row
     (blank-pair _ _ row (blank-pair _ _ losses (blank-pair _ _ regs (blank-pair _ _ regs bins)))) in
-    let counter = blank-pair _ _ w (blank-pair _ _ w rows) in
+    let picks = blank-pair _ _ w (blank-pair _ _ w rows) in
+    let counter = blank-pair _ _ w (blank-pair _ _ w picks) in
     let times = blank-pair _ _ w (blank-pair _ _ w counter) in
     blank-pair _ _ w (blank-pair _ _ w (blank-pair _ _ w (blank-pair _ _ w times)))
 
 blank-run : (sh : Shape) → Blank (runL sh) (start sh)
 unfolding runL fields
-blank-run sh = blank-pair _ _ blank-word
-    (blank-many (unitL (sh .lags) (sh .bins)) (blank-unit (sh .lags) (sh .bins)) (sh .cells))
+blank-run sh =
+    let cells = blank-many (unitL (sh .lags) (sh .bins)) (blank-unit (sh .lags) (sh .bins)) (sh .cells) in
+    blank-pair _ _ blank-word (blank-pair _ _ cells blank-word)
 
 -- "Setup clears the memory and gives a fresh run"
 pub start-blank : (sh : Shape) → (runL sh) .put (start sh) ≡ zeros (memoryWords sh)

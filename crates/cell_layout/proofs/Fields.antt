@@ -10,8 +10,8 @@ use Rattle.lta_spec.specs.Place.{Label, Stamped, Held, Bin, lossCount}
 use Rattle.lta_spec.specs.Row.{emptyRow}
 use Rattle.lta_spec.specs.Layout.{Layout, word, block, pair, many}
 use Rattle.lta_spec.specs.Engine.{Row, Unit, stamped, lossAt, freeBin, binAt, freshUnit}
-use Rattle.lta_spec.specs.Memory.{ofBin, toBin, binL, RowParts, CounterParts, CellParts}
-use Rattle.lta_spec.specs.Memory.{rowsOf, counterOf, ofUnit, toUnit, unitL, runL}
+use Rattle.lta_spec.specs.Memory.{ofBin, toBin, binL, RowParts, PickParts, CounterParts, CellParts}
+use Rattle.lta_spec.specs.Memory.{rowsOf, picksOf, counterOf, ofUnit, toUnit, unitL, ofRun, toRun, runL}
 use Rattle.lta_spec.specs.Step.{unitAt}
 use Rattle.lta_spec.specs.declared.Shape.{Shape}
 use Rattle.lta_spec.proofs.LayoutLaws.{Law, Any, Long, Each, word-law, block-law, many-law}
@@ -25,6 +25,8 @@ use Rattle.cell_layout.specs.Offsets.{
   heldStampAt,
   blockAt,
   lastCommandAt,
+  readyBinsAt,
+  nextBinAt,
   openRowAt,
   heldRowAt,
   lossRowAt,
@@ -36,9 +38,10 @@ use Rattle.cell_layout.specs.Offsets.{
   stampAt,
   binRowAt,
   timeAt,
+  nextCellAt,
   cellAt,
 }
-use Rattle.cell_layout.specs.Cells.{withPlaces, withCounter}
+use Rattle.cell_layout.specs.Cells.{withPlaces, withCounter, withPicks}
 use Rattle.cell_layout.proofs.Field.{Field, whole, here, past, via, within, item, named}
 
 -- a cell with one of its places changed
@@ -102,8 +105,14 @@ module _ (n bins : ℕ) where
   abbrev openL : Layout RowParts
   openL = pair (block (rowWords n)) heldL
 
-  abbrev lastCommandL : Layout (ℕ × RowParts)
-  lastCommandL = pair word openL
+  abbrev nextBinL : Layout (ℕ × RowParts)
+  nextBinL = pair word openL
+
+  abbrev readyBinsL : Layout PickParts
+  readyBinsL = pair word nextBinL
+
+  abbrev lastCommandL : Layout (ℕ × PickParts)
+  lastCommandL = pair word readyBinsL
 
   abbrev blockL : Layout CounterParts
   blockL = pair word lastCommandL
@@ -123,14 +132,20 @@ module _ (n bins : ℕ) where
   abbrev commandL : Layout (ℕ × (ℕ × (ℕ × (ℕ × (ℕ × CounterParts)))))
   commandL = pair word bankL
 
--- the words of a cell with its block counter and what is behind it changed; with its rows and what is behind them
+-- the words of a cell with its block counter and what is behind it changed; with its picks and what is behind them;
+-- with its rows and what is behind them
 abbrev withCounterParts : CellParts → CounterParts → CellParts
 withCounterParts (occupied, (command, (bank, (bin, (openStamp, (heldStamp, parts)))))) new =
     (occupied, (command, (bank, (bin, (openStamp, (heldStamp, new))))))
 
-abbrev withRows : CellParts → RowParts → CellParts
-withRows (occupied, (command, (bank, (bin, (openStamp, (heldStamp, (offset, (code, rows)))))))) new =
+abbrev withPickParts : CellParts → PickParts → CellParts
+withPickParts (occupied, (command, (bank, (bin, (openStamp, (heldStamp, (offset, (code, parts)))))))) new =
     (occupied, (command, (bank, (bin, (openStamp, (heldStamp, (offset, (code, new))))))))
+
+abbrev withRows : CellParts → RowParts → CellParts
+withRows
+    (occupied, (command, (bank, (bin, (openStamp, (heldStamp, (offset, (code, (number, (next, rows)))))))))) new =
+    (occupied, (command, (bank, (bin, (openStamp, (heldStamp, (offset, (code, (number, (next, new))))))))))
 
 -- the fields of a cell
 module _ (n bins : ℕ) where
@@ -192,7 +207,24 @@ module _ (n bins : ℕ) where
   pub lastCommand : Field (unitL n bins) word Any lastCommandAt (λ u. u .counter .lastCode)
       (λ u v. withCounter u (record { offset = u .counter .offset; lastCode = v }))
   unfolding word
-  lastCommand = named (behindStamps (past word-law (here word-law (openL n bins)))) (omega arith)
+  lastCommand = named (behindStamps (past word-law (here word-law (readyBinsL n bins)))) (omega arith)
+
+  -- the picks and what is behind them
+  behindCounter : {C : Type 0} {c : Layout C} {R : C → Type 0} {at : ℕ} {view : PickParts → C}
+      {over : PickParts → C → PickParts} → Field (readyBinsL n bins) c R at view over
+      → Field (unitL n bins) c R (readyBinsAt + at) (λ u. view (picksOf u))
+      (λ u y. toUnit (withPickParts (ofUnit u) (over (picksOf u) y)))
+  unfolding word
+  behindCounter k = named (behindStamps (past word-law (past word-law k))) (omega arith)
+
+  pub readyBins : Field (unitL n bins) word Any readyBinsAt (λ u. u .picks .readyBins)
+      (λ u v. withPicks u (record { readyBins = v; next = u .picks .next }))
+  readyBins = named (behindCounter (here word-law (nextBinL n bins))) (omega arith)
+
+  pub nextBin : Field (unitL n bins) word Any nextBinAt (λ u. u .picks .next)
+      (λ u v. withPicks u (record { readyBins = u .picks .readyBins; next = v }))
+  unfolding word
+  nextBin = named (behindCounter (past word-law (here word-law (openL n bins)))) (omega arith)
 
   -- the rows and what is behind them
   behindWords : {C : Type 0} {c : Layout C} {R : C → Type 0} {at : ℕ} {view : RowParts → C}
@@ -200,7 +232,7 @@ module _ (n bins : ℕ) where
       → Field (unitL n bins) c R (openRowAt + at) (λ u. view (rowsOf u))
       (λ u y. toUnit (withRows (ofUnit u) (over (rowsOf u) y)))
   unfolding word
-  behindWords k = named (behindStamps (past word-law (past word-law k))) (omega arith)
+  behindWords k = named (behindCounter (past word-law (past word-law k))) (omega arith)
 
   pub openRow : Field (unitL n bins) (block (rowWords n)) (RowOk n) openRowAt (λ u. u .cell .opened .members)
       (λ u r. withOpen u (stamped r (u .cell .opened .stamp)))
@@ -226,7 +258,7 @@ module _ (n bins : ℕ) where
       (omega (arith, add-mul 2 i (rowWords n)))
 
   pub xs : Field (unitL n bins) (block (depth n)) (Long (depth n)) (xsAt n) (λ u. u .xs)
-      (λ u r. record { cell = u .cell; counter = u .counter; xs = r; ys = u .ys })
+      (λ u r. record { cell = u .cell; counter = u .counter; picks = u .picks; xs = r; ys = u .ys })
   unfolding block many
   xs =
       named
@@ -235,7 +267,7 @@ module _ (n bins : ℕ) where
       (omega arith)
 
   pub ys : Field (unitL n bins) (block (depth n)) (Long (depth n)) (ysAt n) (λ u. u .ys)
-      (λ u r. record { cell = u .cell; counter = u .counter; xs = u .xs; ys = r })
+      (λ u r. record { cell = u .cell; counter = u .counter; picks = u .picks; xs = u .xs; ys = r })
   unfolding block many
   ys =
       named
@@ -278,7 +310,7 @@ module _ (n bins : ℕ) where
         withBins u (set (u .cell .bins) k (record { state = b .state; content = stamped r (b .content .stamp) })))
     binRow = within (bin-law n) (row-law n) bin (rowOf n)
 
--- t, and cell c of a run
+-- t, the run's place of picks, and cell c of a run
 module _ (sh : Shape) where
   abbrev cellsL : Layout (List Unit)
   cellsL = many (sh .cells) (unitL (sh .lags) (sh .bins))
@@ -286,18 +318,32 @@ module _ (sh : Shape) where
   cells-law : Law cellsL (Each (sh .cells) (UnitOk (sh .lags) (sh .bins)))
   cells-law = many-law (unit-law (sh .lags) (sh .bins)) (sh .cells)
 
-  pub time : Field (runL sh) word Any timeAt (λ r. r .t) (λ r v. record { t = v; units = r .units })
+  pub time : Field (runL sh) word Any timeAt (λ r. r .t) (λ r v. record { t = v; next = r .next; units = r .units })
   unfolding runL
-  time = via (λ r. (r .t, r .units)) (λ x. record { t = x .0; units = x .1 }) (λ y. refl) (here word-law cellsL)
+  time = via ofRun toRun (λ y. refl) (here word-law (pair cellsL word))
+
+  pub nextCell : Field (runL sh) word Any (nextCellAt (sh .lags) (sh .bins) (sh .cells)) (λ r. r .next)
+      (λ r v. record { t = r .t; next = v; units = r .units })
+  unfolding runL word many
+  nextCell =
+      named (via ofRun toRun (λ y. refl) (past word-law (past cells-law (whole word-law))))
+      (omega (arith, ap (λ m. sh .cells * m) (unit-width (sh .lags) (sh .bins))))
 
   pub cell : (c : ℕ) → c < sh .cells
       → Field (runL sh) (unitL (sh .lags) (sh .bins)) (UnitOk (sh .lags) (sh .bins))
-      (cellAt (sh .lags) (sh .bins) c) (λ r. unitAt sh c r) (λ r u. record { t = r .t; units = set (r .units) c u })
+      (cellAt (sh .lags) (sh .bins) c) (λ r. unitAt sh c r)
+      (λ r u. record { t = r .t; next = r .next; units = set (r .units) c u })
   unfolding runL word
   cell c h =
       named
       (within cells-law (unit-law (sh .lags) (sh .bins))
-      (via (λ r. (r .t, r .units)) (λ x. record { t = x .0; units = x .1 }) (λ y. refl)
-      (past word-law (whole cells-law)))
+      (via ofRun toRun (λ y. refl) (past word-law (here cells-law word)))
       (item (unit-law (sh .lags) (sh .bins)) (sh .cells) c (freshUnit (sh .lags) (sh .bins)) h))
       (omega (arith, ap (λ m. c * m) (unit-width (sh .lags) (sh .bins))))
+
+  -- a word of cell c
+  pub cellWord : (c : ℕ) → c < sh .cells → {at : ℕ} {view : Unit → ℕ} {over : Unit → ℕ → Unit}
+      → Field (unitL (sh .lags) (sh .bins)) word Any at view over
+      → Field (runL sh) word Any (cellAt (sh .lags) (sh .bins) c + at) (λ r. view (unitAt sh c r))
+      (λ r v. record { t = r .t; next = r .next; units = set (r .units) c (over (unitAt sh c r) v) })
+  cellWord c h k = within (unit-law (sh .lags) (sh .bins)) word-law (cell c h) k

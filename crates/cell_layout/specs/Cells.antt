@@ -6,7 +6,7 @@ use lib.ListN.{length, getD}
 use Rattle.lta_spec.specs.Shape.{runLimit, peak}
 use Rattle.lta_spec.specs.Size.{cellWords}
 use Rattle.lta_spec.specs.Place.{Cell}
-use Rattle.lta_spec.specs.Engine.{Row, Counter, Unit}
+use Rattle.lta_spec.specs.Engine.{Row, Counter, Picks, Unit}
 use Rattle.lta_spec.specs.Memory.{unitL}
 use Rattle.cell_layout.specs.Lays.{Lays}
 
@@ -23,15 +23,19 @@ unitOf n bins l = (unitL n bins) .get l
 abbrev pub placesOf : (n bins : ℕ) → List ℕ → Cell Row
 placesOf n bins l = (unitOf n bins l) .cell
 
--- a cell with its places changed, its block counter and registers as they were
+-- a cell with its places changed, its block counter, picks and registers as they were
 abbrev pub withPlaces : Unit → Cell Row → Unit
-withPlaces u c = record { cell = c; counter = u .counter; xs = u .xs; ys = u .ys }
+withPlaces u c = record { cell = c; counter = u .counter; picks = u .picks; xs = u .xs; ys = u .ys }
 
 -- a cell with its block counter changed
 abbrev pub withCounter : Unit → Counter → Unit
-withCounter u k = record { cell = u .cell; counter = k; xs = u .xs; ys = u .ys }
+withCounter u k = record { cell = u .cell; counter = k; picks = u .picks; xs = u .xs; ys = u .ys }
 
--- a function on words l leaves words m: f on the cell's places, its block counter and registers as they were
+-- a cell with its picks changed
+abbrev pub withPicks : Unit → Picks → Unit
+withPicks u p = record { cell = u .cell; counter = u .counter; picks = p; xs = u .xs; ys = u .ys }
+
+-- a function on words l leaves words m: f on the cell's places, its block counter, picks and registers as they were
 abbrev pub Changes : (n bins : ℕ) → (f : Cell Row → Cell Row) → (l m : List ℕ) → Type 0
 Changes n bins f l m = Lays (unitL n bins) m (withPlaces (unitOf n bins l) (f (placesOf n bins l)))
 

@@ -30,9 +30,16 @@ blockAt = 6
 abbrev pub lastCommandAt : ℕ
 lastCommandAt = 7
 
+-- the picks: the Ready number, and the place at which the next pick starts
+abbrev pub readyBinsAt : ℕ
+readyBinsAt = 8
+
+abbrev pub nextBinAt : ℕ
+nextBinAt = 9
+
 -- the rows of Open, of Held and of the losses
 abbrev pub openRowAt : ℕ
-openRowAt = 8
+openRowAt = 10
 
 abbrev pub heldRowAt : (n : ℕ) → ℕ
 heldRowAt n = openRowAt + rowWords n
@@ -64,12 +71,15 @@ stampAt n k = stateAt n k + stampIn
 abbrev pub binRowAt : (n k : ℕ) → ℕ
 binRowAt n k = stateAt n k + rowIn
 
--- t, and the cells behind it
+-- t, the cells behind it, and behind those the cell at which the next pick starts
 abbrev pub timeAt : ℕ
 timeAt = 0
 
 abbrev pub cellAt : (n bins c : ℕ) → ℕ
 cellAt n bins c = 1 + c * cellWords n bins
+
+abbrev pub nextCellAt : (n bins cells : ℕ) → ℕ
+nextCellAt n bins cells = cellAt n bins cells
 
 -- the words of a cell before its bins
 abbrev pub fixedWords : (n : ℕ) → ℕ

@@ -1,13 +1,16 @@
-// Where t stands in work memory, and the fields of a cell in its words. specs/ has the definitions; proofs/ the laws by
-// which a store in the words is a change of the field.
+// Where the words of a run stand in work memory, and the fields of a cell in its words. specs/ has the definitions;
+// proofs/ the laws by which a store in the words is a change of the field.
 ghost use mathlib.Core.Path.{_≡_};
 ghost use Prim.Native.Nat.{_+_, _*_, _<_, _≤_};
 ghost use Rattle.lta_spec.specs.Size.{rowWords, depth, binWords, cellWords};
 ghost use Rattle.lta_spec.specs.Place.{lossCount};
+ghost use Rattle.lta_spec.specs.Engine.{after};
 ghost use Rattle.cell_layout.specs.Offsets.{heldRowAt, lossRowAt, xsAt, ysAt, stateAt, fixedWords, Stands};
 
-// In work memory: t, ahead of the cells.
+// In work memory: t; then the cells; in its last word the cell at which the next pick starts.
 pub const TIME: usize = 0;
+
+pub const CELLS: usize = 1;
 
 // Held's flag and label.
 pub const OCCUPIED: usize = 0;
@@ -28,8 +31,13 @@ pub const BLOCK: usize = 6;
 
 pub const LAST_COMMAND: usize = 7;
 
+// The picks: how many bins are Ready; the place in the list of bins at which the next pick starts.
+pub const READY_BINS: usize = 8;
+
+pub const NEXT_BIN: usize = 9;
+
 // Open's row.
-pub const OPEN_ROW: usize = 8;
+pub const OPEN_ROW: usize = 10;
 
 // In a bin, whose first word is its state: its stamp, its row.
 pub const STAMP: usize = 1;
@@ -133,4 +141,15 @@ pub fn bin_start(n: usize, bins: usize, k: usize) -> usize
     ensures { λ r. ⌜ Stands (stateAt n k) (binWords n) (cellWords n bins) r ⌝ }
 {
     y_register(n) + n / 2 + 1 + k * (ROW + (SUMS + 2 * n))
+}
+
+// The place behind place k of so many, and behind the last one the first.
+pub fn place_after(size: u64, k: u64) -> u64
+    requires { ⌜ k < size ⌝ }
+    ensures { λ r. ⌜ r ≡ after size k ⌝ }
+{
+    if k + 1 < size {
+        return k + 1;
+    }
+    0
 }

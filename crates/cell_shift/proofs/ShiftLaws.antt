@@ -29,7 +29,13 @@ module _ (n bins : ℕ) {l : List ℕ} {u : Unit} (s : Lays (unitL n bins) l u) 
   pub lays-shift : (x y : ℕ) → Lays (unitL n bins) (shiftedAt (shiftedAt l n (xsAt n) x) n (ysAt n) y) (moved n x y u)
   lays-shift x y =
       let a : Lays (unitL n bins) (shiftedAt l n (xsAt n) x)
-      (record { cell = u .cell; counter = u .counter; xs = E.shifted n x (u .xs); ys = u .ys }) =
+      (record {
+        cell = u .cell;
+        counter = u .counter;
+        picks = u .picks;
+        xs = E.shifted n x (u .xs);
+        ys = u .ys;
+      }) =
       rw (row-of s (F.xs n bins))
       (lays-row s (F.xs n bins) _ (length-shifted n x (u .xs) (row-length s (F.xs n bins)))) in
       rw (row-of a (F.ys n bins))

@@ -49,6 +49,7 @@ pub fn refusal_code(r: Refusal) -> u32
         Refusal::BadRecord => 17,
         Refusal::WrongBias => 18,
         Refusal::BadValidity => 19,
+        Refusal::NothingReady => 20,
     }
 }
 

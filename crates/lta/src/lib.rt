@@ -5,6 +5,7 @@ pub use call_emit::emit;
 pub use call_forecast::forecast;
 pub use call_integrate::integrate;
 pub use call_page::page;
+pub use call_pick::pick;
 pub use call_reading::reading;
 pub use call_setup::setup;
 pub use call_setup::words_needed;

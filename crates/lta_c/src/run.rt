@@ -9,7 +9,7 @@ use host_pack::numbers::shape_of;
 use host_pack::pack::pack;
 use host_values::store_sums;
 ghost use mathlib.Core.Path.{_≡_};
-ghost use Rattle.lta_spec.specs.Call.Call.{tick, dump, integrate, emit, forecast, page};
+ghost use Rattle.lta_spec.specs.Call.Call.{tick, dump, integrate, emit, pick, forecast, page};
 ghost use Rattle.lta_spec.specs.Step.{sizeAnswer, setupAnswer, setupLeaves, step};
 ghost use Rattle.host_pack.specs.Boundary.{shapeOf, packed, stored, sumsIn, countsIn};
 ghost use Rattle.lta_c.specs.Answers.{readingTold};
@@ -104,6 +104,19 @@ pub extern "C" fn lta_emit(
         ≡ (step (shapeOf (now (shape .entry))) (emit cell bank bin (now (out .entry))) (now (mem .entry))) .mem ⌝ }
 {
     pack(written(lta::emit(shape_of(shape), &mut *mem, cell, bank, bin, &mut *out)))
+}
+
+// A pick: the frame of the Ready bin whose turn it is into the front of out.
+#[no_mangle]
+pub extern "C" fn lta_pick(shape: &[u64], mem: &mut [u64], out: &mut [u8]) -> u64
+    ensures answer { λ r. ⌜ r
+        ≡ packed ((step (shapeOf (now (shape .entry))) (pick (now (out .entry))) (now (mem .entry))) .answer) ⌝ }
+    ensures frame { λ _. ⌜ now (out .exit)
+        ≡ (step (shapeOf (now (shape .entry))) (pick (now (out .entry))) (now (mem .entry))) .out ⌝ }
+    ensures leaves { λ _. ⌜ now (mem .exit)
+        ≡ (step (shapeOf (now (shape .entry))) (pick (now (out .entry))) (now (mem .entry))) .mem ⌝ }
+{
+    pack(written(lta::pick(shape_of(shape), &mut *mem, &mut *out)))
 }
 
 // The numbers of one loss of one cell at one lag.

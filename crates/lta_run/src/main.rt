@@ -5,7 +5,7 @@ use script::input::run_input;
 use script::shape;
 
 fn main() {
-    let mut mem = [0u64; 105];
+    let mut mem = [0u64; 108];
     let Started::Fresh = lta::setup(shape(), &mut mem) else {
         return;
     };

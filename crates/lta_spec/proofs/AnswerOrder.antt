@@ -19,13 +19,12 @@ pub orders : Orders
 unfolding
     lagCountOk shapeOk memoryWords hostTests part lengthKind fieldsOf fixedOk fieldsOk biasOk marked summed ruled
     readVerdict writeVerdict normalVerdict emittedFields validityOk commandOk dumpFits phaseOk rowOk E.binAt E.hasRoom
-    E.forecastOf
-    E.tickBy E.tickUnit E.resets E.offsetAfter E.keptAs E.counted E.dumpBy E.dumpCell E.holdOpen E.sendOpen S.tickUnits
-    S.heldOff S.withDump S.rowFrame S.sends S.dumpsBy S.accepted D.counterOk D.dumpUnitSound D.lossesOk D.tickSound
-    D.dumpHolds D.dumpParts D.losesNone D.dumpSound
-    D.integrateHolds D.integrateBinSound D.integrateSound D.emitSound D.pageSound pageLength word
-    block pair many fields binL unitL
-    runL S.verdict S.step
+    E.forecastOf E.tickBy E.tickUnit E.resets E.offsetAfter E.keptAs E.counted E.dumpBy E.dumpCell E.holdOpen
+    E.sendOpen E.seek E.integrateBy E.integrateAt E.integrateCell S.pickedCell S.tickUnits S.heldOff S.withUnit
+    S.rowFrame S.sends S.dumpsBy S.emits S.picksBin S.accepted D.counterOk D.dumpUnitSound D.lossesOk D.tickSound
+    D.dumpHolds D.dumpParts D.losesNone D.dumpSound D.integrateHolds D.integrateBinSound D.integrateSound
+    D.integrateUnitSound D.emitSound D.emitUnitSound D.numberFits D.pickSound D.pageSound pageLength word block pair
+    many fields binL unitL runL S.verdict S.step
 orders =
     record {
       sampler = refl;
@@ -54,6 +53,22 @@ orders =
       pager = refl;
       pager-others = refl;
       pager-losses = refl;
+      picker-host = refl;
+      picker = refl;
+      picker-none = refl;
+      picker-last = refl;
+      picker-bins = refl;
+      picker-numbers = refl;
+      picker-two = refl;
+      picker-places = refl;
+      picker-cells = refl;
+      picker-every = refl;
+      taker-numbers = refl;
+      taker-filling = refl;
+      integrator-numbers = refl;
+      integrator-filling = refl;
+      integrator-unoccupied = refl;
+      picks-others = refl;
       sender = refl;
       normaliser = refl;
       sender-kinds = refl;

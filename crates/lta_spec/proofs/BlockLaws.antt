@@ -8,8 +8,8 @@ use lib.Dec.{leb, ltb, eqb}
 use borrow.Author.Tests.{leb-true, ltb-true, eqb-true, eqb-false, ne-eqb, lt-ltb, le-ltb, le-leb, lt-leb}
 use Rattle.lta_spec.specs.Call.{save, add, last, speed, discard, idle, commandOk, phaseOk}
 use Rattle.lta_spec.specs.Machine as M
-use Rattle.lta_spec.specs.Machine.{LastCommand}
-use Rattle.lta_spec.specs.Machine.LastCommand.{none, was}
+use Rattle.lta_spec.specs.Machine.{Latest}
+use Rattle.lta_spec.specs.Machine.Latest.{none, was}
 use Rattle.lta_spec.specs.Engine as E
 use Rattle.lta_spec.specs.Damage as D
 use Rattle.lta_spec.specs.Demand.{lastOf}
@@ -17,14 +17,14 @@ use Rattle.lta_spec.specs.declared.Shape.{Shape}
 use Rattle.lta_spec.proofs.TestLaws.{and-both}
 
 -- what the engine stores of the machine's counter
-abbrev codeOf : LastCommand → ℕ
+abbrev codeOf : Latest → ℕ
 codeOf none = 0
 codeOf (was command) = suc command
 
 abbrev pub stored : (start : ℕ) → M.Counter → E.Counter
 stored start k = record { offset = k .block - start; lastCode = codeOf (k .lastCommand) }
 
-pub last-stored : (l : LastCommand) → lastOf (codeOf l) ≡ l
+pub last-stored : (l : Latest) → lastOf (codeOf l) ≡ l
 last-stored none = refl
 last-stored (was command) = refl
 
@@ -48,7 +48,7 @@ save-or-add (suc (suc c)) =
       lt-leb (suc (suc (suc c))) 2 (omega arith),
     )
 
-returns-same : (command : ℕ) (l : LastCommand) → M.returns command l ≡ E.resets command (codeOf l)
+returns-same : (command : ℕ) (l : Latest) → M.returns command l ≡ E.resets command (codeOf l)
 unfolding M.returns E.resets
 returns-same command none = refl
 returns-same command (was c) =

@@ -33,8 +33,8 @@ pub block-rows : BlockRows
 unfolding
     lagCountOk shapeOk memoryWords hostTests commandOk dumpFits phaseOk M.lose M.loseOpen M.holdOpen M.dumpBy M.dumpCell
     M.sendOpen M.countsAs M.returns M.oneOn M.counted M.release M.stateAfter M.stampAfter M.integrateBy M.binAt
-    M.integrateAt M.integrateCell R.verdict R.withDump R.withCell R.withFrame R.sends R.dumpsBy R.accepted R.step
-    machineRun
+    M.integrateAt M.integrateCell R.verdict R.withDump R.withCell R.withFrame R.sends R.emits R.dumpsBy R.accepted
+    R.step machineRun
 block-rows =
     record {
       first-save = ends threeBlocks refl (omega arith) _ _ _ refl refl;

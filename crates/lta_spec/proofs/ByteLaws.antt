@@ -52,7 +52,7 @@ bytes-append (w ∷ ws) vs =
     ap (λ (r : List ℕ). (w % 256) ∷ (w / 256 % 256) ∷ (w / 65536 % 256) ∷ (w / 16777216 % 256) ∷ r)
     (bytes-append ws vs)
 
-one-word : (w : ℕ) → w < wordRange → word (w % 256) (w / 256 % 256) (w / 65536 % 256) (w / 16777216 % 256) ≡ w
+pub one-word : (w : ℕ) → w < wordRange → word (w % 256) (w / 256 % 256) (w / 65536 % 256) (w / 16777216 % 256) ≡ w
 one-word w h =
     joined w (w / 256) (w / 65536) (w / 16777216) (w % 256) (w / 256 % 256) (w / 65536 % 256) (w / 16777216 % 256)
     (div-add-mod w 256) (rest 256 (w / 65536) (div-div-eq-div-mul w 256 256))

@@ -12,7 +12,7 @@ use Rattle.lta_spec.specs.Size.{memoryWords, hostTests}
 use Rattle.lta_spec.specs.Words.{every}
 use Rattle.lta_spec.specs.Place.{Label}
 use Rattle.lta_spec.specs.Call.{Call, lentTo, speed}
-use Rattle.lta_spec.specs.Call.Call.{tick, dump, integrate, emit, reading, forecast, page}
+use Rattle.lta_spec.specs.Call.Call.{tick, dump, integrate, emit, reading, forecast, page, pick}
 use Rattle.lta_spec.specs.Answer.{refusal}
 use Rattle.lta_spec.specs.Answer.Answer.{refused}
 use Rattle.lta_spec.specs.Machine.{Counter}
@@ -57,6 +57,7 @@ tests-other sh r words (emit c bank bin out) = refl
 tests-other sh r words (reading c lag loss) = refl
 tests-other sh r words (forecast c) = refl
 tests-other sh r words (page out) = refl
+tests-other sh r words (pick out) = refl
 
 -- an accepted call answers a number or an entry
 dump-other : (b : Bool) (sh : Shape) (c : ℕ) (l : Label) (k : Counter) (out : List ℕ) (r : R.Run)
@@ -66,7 +67,7 @@ dump-other true sh c l k out r e = let z : _≡_ {A = ℕ} 0 1 = cc in omega ari
 dump-other false sh c l k out r e = let z : _≡_ {A = ℕ} 0 1 = cc in omega arith
 
 accepted-other : (sh : Shape) (call : Call) (r : R.Run) → (R.accepted sh call r) .answer ≡ refused 11 → ⊥
-unfolding R.accepted R.sends
+unfolding R.accepted R.emits R.picks R.sends
 accepted-other sh (tick samples) r e = let z : _≡_ {A = ℕ} 0 1 = cc in omega arith
 accepted-other sh (dump c command bank phase out) r e = dump-other (eqb command speed) sh c _ _ out r e
 accepted-other sh (integrate c) r e = let z : _≡_ {A = ℕ} 0 1 = cc in omega arith
@@ -74,6 +75,7 @@ accepted-other sh (emit c bank bin out) r e = let z : _≡_ {A = ℕ} 0 1 = cc i
 accepted-other sh (reading c lag loss) r e = let z : _≡_ {A = ℕ} 0 1 = cc in omega arith
 accepted-other sh (forecast c) r e = let z : _≡_ {A = ℕ} 0 1 = cc in omega arith
 accepted-other sh (page out) r e = let z : _≡_ {A = ℕ} 0 1 = cc in omega arith
+accepted-other sh (pick out) r e = let z : _≡_ {A = ℕ} 0 1 = cc in omega arith
 
 step-other : (sh : Shape) (words : ℕ) (call : Call) (r : R.Run) → (R.step sh words call r) .answer ≡ refused 11 → ⊥
 unfolding R.step R.verdict

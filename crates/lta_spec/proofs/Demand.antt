@@ -1,5 +1,5 @@
 -- Demand 3 of document 01: one theorem for every list of calls after a setup.
-use Prim.Native.Nat.{ℕ, zero, suc, _<_}
+use Prim.Native.Nat.{ℕ, zero, suc, _*_, _<_}
 use mathlib.Core.Path.{_≡_, refl, sym, ap, ap₂, _∙_, subst}
 use mathlib.Core.Bool.{true}
 use mathlib.Core.List.{List, [], _∷_, _++_, map, append-nil, append-assoc, map-append, map-map, List·Memᴰ}
@@ -29,6 +29,7 @@ use Rattle.lta_spec.proofs.ShapeLaws.{shaped}
 use Rattle.lta_spec.proofs.RowLaws.{numbers, numbers-size}
 use Rattle.lta_spec.proofs.SetLaws.{stored-inPhase, stored-quadrature, stored-edge, stored-centre, sums-read}
 use Rattle.lta_spec.proofs.BlockLaws.{last-stored}
+use Rattle.lta_spec.proofs.PickLaws.{place-after}
 use Rattle.lta_spec.proofs.Carry.{row, mapStamped, mapBin, mapCell, bin-carry, loss-carry}
 use Rattle.lta_spec.proofs.SameCell.{Same}
 use Rattle.lta_spec.proofs.SameRun.{unit-same}
@@ -54,7 +55,8 @@ unfolding mapStamped
 equal-stamped n xs ys p = record { numbers = equal n xs ys (p .members); stamp = refl }
 
 -- the places of a related cell
-equal-cell : (sh : Shape) (t : ℕ) (e : E.Unit) (m : R.Unit) → Same sh t e m → EqualCell (sh .lags) (sh .start) e m
+equal-cell : (sh : Shape) (t : ℕ) (e : E.Unit) (m : R.Unit) → Same sh t e m
+    → EqualCell (sh .lags) (sh .bins) (sh .start) e m
 unfolding mapCell mapBin
 equal-cell sh t e m s =
     let n = sh .lags in
@@ -73,6 +75,8 @@ equal-cell sh t e m s =
       losses = λ i. rw (c, loss-carry n xs ys i (m .cell)) (equal n xs ys (getD (m .cell .losses) i []));
       block = rw (s .counter) (omega (arith, s .good .counter .low));
       lastCommand = rw (s .counter) (last-stored (m .counter .lastCommand));
+      readyBins = ap (λ p. p .readyBins) (s .picks);
+      nextBin = ap (λ p. p .next) (s .picks) ∙ place-after (2 * sh .bins) (m .picked) (s .good .picked);
     }
 
 -- the numbers of a related cell's rows and of its frames are those of the sets of its places
@@ -130,7 +134,7 @@ on-run call (x ∷ xs) = (tt, on-run call xs)
 pub demand3 : (sh : Shape) → shapeOk sh ≡ true → (cs : List Listed) → AllStand cs → Demand3 sh cs
 demand3 sh ok cs stand =
     let k = shaped sh ok in
-    let fresh = start-same sh (k .some-bins) (k .some-blocks) in
+    let fresh = start-same sh k in
     let f = follow sh (k .some-lags) cs stand (W.start sh) (R.start sh) fresh in
     let m = machineAfter sh cs in
     let read : (runL sh) .get (memAfter sh cs) ≡ f .run =
@@ -143,7 +147,7 @@ demand3 sh ok cs stand =
     λ c h.
     ap (framesReturned c cs) (f .tells)
     ∙ sym (append-nil (framesReturned c cs (machineReturns sh cs (R.start sh))))
-    ∙ list-framed sh (k .some-lags) cs stand (W.start sh) (R.start sh) fresh c h []
+    ∙ list-framed sh k cs stand (W.start sh) (R.start sh) fresh c h []
     (λ gx gy. rw (none-sent sh (sh .cells) c)) [] [] in
     let back : (c : ℕ) → (h : c < sh .cells)
     → AllRead sh c ((R.unitAt sh c m) .xs) ((R.unitAt sh c m) .ys) (returned c) ((R.unitAt sh c m) .frames) =
@@ -157,7 +161,10 @@ demand3 sh ok cs stand =
       others = all-keep cs stand;
       words = ap length (f .mem) ∙ sized sh (f .run) m (f .same);
       time = ap (λ r. r .t) read ∙ f .same .t;
-      cells = λ c h. subst (λ r. EqualCell (sh .lags) (sh .start) (S.unitAt sh c r) (R.unitAt sh c m))
+      nextCell =
+          ap (λ r. r .next) read ∙ f .same .next
+          ∙ place-after (sh .cells) (m .served) (f .same .served);
+      cells = λ c h. subst (λ r. EqualCell (sh .lags) (sh .bins) (sh .start) (S.unitAt sh c r) (R.unitAt sh c m))
           (sym read) (equal-cell sh (m .t) _ _ (at c h));
       frames = sent;
       once = λ c i h l. at c h .good .once (isTick i) ∙ one-below i (m .t) l;

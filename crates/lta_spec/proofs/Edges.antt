@@ -47,7 +47,7 @@ unfolding
     M.stateAfter M.stampAfter M.integrateBy M.binAt M.integrateAt M.integrateCell M.emptyBin N.upTo N.inPhaseSum
     N.quadratureSum N.validCount N.setCounts N.setFrame decimalWithin decimal rightAligned countsSum pageLine
     cellLines ledgerLines pageOf pageLength R.lossPage R.verdict R.tickUnits R.heldOff R.withDump R.withCell R.emitted
-    R.speedSent R.withFrame R.sends R.dumpsBy R.accepted R.step machineReturns
+    R.speedSent R.withFrame R.sends R.emits R.dumpsBy R.accepted R.step machineReturns
 machine-returned = (refl, refl)
 
 -- the engine returns what the machine returns: demand 3

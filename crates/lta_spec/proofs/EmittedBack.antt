@@ -18,13 +18,14 @@ use Rattle.lta_spec.specs.Bytes.{wordsOf}
 use Rattle.lta_spec.specs.Frame.{accumulated, speedFrame, frameLength, bodyOf, fieldsOf, kindOk}
 use Rattle.lta_spec.specs.FrameCalls.{kindBy, readVerdict, writeVerdict}
 use Rattle.lta_spec.specs.Call.{speed, dumpFits, binIndex, emittedFields}
-use Rattle.lta_spec.specs.Call.Call.{dump, emit}
+use Rattle.lta_spec.specs.Call.Call.{dump, emit, pick}
 use Rattle.lta_spec.specs.Row.{ticksOf, edgeOf, centreOf, rowLags, sumOk, rowOk}
-use Rattle.lta_spec.specs.Engine.{Row, binAt, freeBin, freshUnit}
+use Rattle.lta_spec.specs.Engine.{Row, binAt, freeBin}
 use Rattle.lta_spec.specs.Damage.{contentOk, emitSound}
 use Rattle.lta_spec.specs.Memory.{runL}
 use Rattle.lta_spec.specs.Step as S
-use Rattle.lta_spec.specs.RoundTrip.{RoundTrip, RowBack, storedBin, emittedTo, storedOpen, speedBin, speedTo}
+use Rattle.lta_spec.specs.RoundTrip.{RoundTrip, RowBack, storedBin, emittedTo, pickedPlace, pickedTo}
+use Rattle.lta_spec.specs.RoundTrip.{storedOpen, speedBin, speedTo}
 use Rattle.lta_spec.specs.declared.Fields.{Fields}
 use Rattle.lta_spec.specs.declared.Shape.{Shape}
 use Rattle.lta_spec.specs.declared.Verdict.the-variants as verdict
@@ -38,9 +39,10 @@ use Rattle.lta_spec.proofs.RoundTrips.{read-written, lags-read, leaves-
 use Rattle.lta_spec.proofs.Rewritten.{leaves-again}
 use Rattle.lta_spec.proofs.Encoding.{sums-within}
 use Rattle.lta_spec.proofs.LayoutLaws.{all-get}
-use Rattle.lta_spec.proofs.MemoryLaws.{UnitOk, BinOk, run-law, run-width}
+use Rattle.lta_spec.proofs.MemoryLaws.{BinOk}
 use Rattle.lta_spec.proofs.Passed.{shape-passed, words-passed, DumpPassed, dump-passed, EmitPassed, emit-passed}
-use Rattle.lta_spec.proofs.Passed.{open-tested}
+use Rattle.lta_spec.proofs.Passed.{open-tested, unit-sized}
+use Rattle.lta_spec.proofs.PickPassed.{pick-passed}
 
 -- the fields of a frame of a row and a stamp within their limits
 pub emitted-valid : (sh : Shape) → Shaped sh → (kind c bank bin stamp : ℕ) (row : Row) → kindOk kind ≡ true
@@ -133,23 +135,11 @@ unfolding rowOk
 row-wider a b row h ok =
     let t = and-le (ticksOf row) a _ ok in rw (le-leb (ticksOf row) b (omega (arith, t .0)), t .1)
 
--- work memory of the right length: cell c of its run has its words
-unit-sized : (sh : Shape) (mem : List ℕ) (c : ℕ) → length mem ≡ memoryWords sh → c < sh .cells
-    → UnitOk (sh .lags) (sh .bins) (S.unitAt sh c ((runL sh) .get mem))
-unit-sized sh mem c words inside =
-    let n = sh .lags in
-    let B = sh .bins in
-    let ok = (run-law sh) .fits mem (omega (arith, run-width sh, words)) in
-    all-get (UnitOk n B) (((runL sh) .get mem) .units) (freshUnit n B) (ok .1 .1) c (omega (arith, ok .1 .0, inside))
-
--- an accepted emission
-module _ (sh : Shape) (c bank bin : ℕ) (mem out : List ℕ)
-    (v : S.verdict sh mem (emit c bank bin out) ≡ verdict.Accepted) where
+-- an emission whose tests passed, by name or by a pick
+module _ (sh : Shape) (c bank bin : ℕ) (mem out : List ℕ) (ok : shapeOk sh ≡ true)
+    (words : length mem ≡ memoryWords sh) (passed : EmitPassed sh mem c bank bin (length out)) where
   abbrev stored : Stamped Row
   stored = storedBin sh c bank bin mem
-
-  passed : EmitPassed sh mem c bank bin (length out)
-  passed = emit-passed sh mem c bank bin out v
 
   -- the row and the stamp of the bin are within their limits
   limits : (rowOk binLimit (stored .members) ≡ true) × (stored .stamp ≤ runLimit)
@@ -164,17 +154,35 @@ module _ (sh : Shape) (c bank bin : ℕ) (mem out : List ℕ)
   long : length (stored .members) ≡ rowWords (sh .lags)
   unfolding binAt
   long =
-      let u = unit-sized sh mem c (words-passed sh mem _ v) (passed .inCells) in
+      let u = unit-sized sh mem c words (passed .inCells) in
       let inside = index-below (sh .bins) bank bin (passed .inBanks) (passed .inBins) in
       all-get (BinOk (sh .lags)) ((S.cellAt sh c ((runL sh) .get mem)) .bins) (freeBin (sh .lags)) (u .bins .1)
       (binIndex (sh .bins) bank bin) (omega (arith, u .bins .0)) .1 .1
 
-  pub emitted-back : RowBack sh accumulated c bank bin stored (emittedTo sh c bank bin mem out)
-  unfolding S.step S.accepted S.sends
-  emitted-back =
-      rw v
-      (sent-back sh (shape-passed sh mem _ v) accumulated c bank bin stored refl (passed .inCells) (passed .inBanks)
-      (passed .inBins) long (limits .1) (limits .0) out (passed .room))
+  emits-back : RowBack sh accumulated c bank bin stored
+      (take (frameLength accumulated (sh .lags)) ((S.emits sh c bank bin out ((runL sh) .get mem)) .out))
+  unfolding S.emits S.sends
+  emits-back =
+      sent-back sh ok accumulated c bank bin stored refl (passed .inCells) (passed .inBanks) (passed .inBins) long
+      (limits .1) (limits .0) out (passed .room)
+
+pub emitted-back : (sh : Shape) (c bank bin : ℕ) (mem out : List ℕ)
+    → S.verdict sh mem (emit c bank bin out) ≡ verdict.Accepted
+    → RowBack sh accumulated c bank bin (storedBin sh c bank bin mem) (emittedTo sh c bank bin mem out)
+unfolding S.step S.accepted
+emitted-back sh c bank bin mem out v =
+    rw v
+    (emits-back sh c bank bin mem out (shape-passed sh mem _ v) (words-passed sh mem _ v)
+    (emit-passed sh mem c bank bin out v))
+
+pub picked-back : (sh : Shape) (mem out : List ℕ) → S.verdict sh mem (pick out) ≡ verdict.Accepted
+    → let p = pickedPlace sh mem in
+    RowBack sh accumulated (p .cell) (p .bank) (p .bin) (storedBin sh (p .cell) (p .bank) (p .bin) mem)
+    (pickedTo sh mem out)
+unfolding S.step S.accepted S.picksBin
+picked-back sh mem out v =
+    rw v
+    (emits-back sh _ _ _ mem out (shape-passed sh mem _ v) (words-passed sh mem _ v) (pick-passed sh mem out v .emits))
 
 -- an accepted speed dump
 module _ (sh : Shape) (c bank phase : ℕ) (mem out : List ℕ)
@@ -240,5 +248,6 @@ round-trip =
       one-kind = one-kind;
       written-before = refused-now;
       emitted-back = emitted-back;
+      picked-back = picked-back;
       speed-back = speed-back;
     }

@@ -1,6 +1,7 @@
 -- A list of calls: the engine on work memory and the machine, from a fresh run, call by call.
-use Prim.Native.Nat.{ℕ, zero, suc, _*_, _≤_, _<_}
+use Prim.Native.Nat.{ℕ, zero, suc, _*_, _≤_}
 use mathlib.Core.Path.{_≡_, refl, sym, ap, _∙_, subst}
+use mathlib.Core.Bool.{cond}
 use mathlib.Core.List.{List, [], _∷_, map, append-nil}
 use native.Mathlib.Omega.{arith}
 use lib.ListN.{length, getD, replicate, length-map, length-replicate}
@@ -26,6 +27,7 @@ use Rattle.lta_spec.specs.declared.Refusal.{Refusal}
 use Rattle.lta_spec.specs.declared.Verdict.{Verdict}
 use Rattle.lta_spec.specs.declared.Verdict.the-variants.{Accepted, Refused}
 use Rattle.lta_spec.proofs.TestLaws.{first-append, pass-both}
+use Rattle.lta_spec.proofs.ShapeLaws.{Shaped}
 use Rattle.lta_spec.proofs.LayoutLaws.{All, Each}
 use Rattle.lta_spec.proofs.MemoryLaws.{RowOk, BinOk, UnitOk, RunOk, run-law, run-width}
 use Rattle.lta_spec.proofs.RowLaws.{length-numbers, window, window-length}
@@ -33,7 +35,9 @@ use Rattle.lta_spec.proofs.Carry.{row, mapStamped, mapBin, mapCell}
 use Rattle.lta_spec.proofs.Conserve.{tally, over-places}
 use Rattle.lta_spec.proofs.Sound.{BinSound}
 use Rattle.lta_spec.proofs.SameCell.{Same}
-use Rattle.lta_spec.proofs.SameRun.{AllSame, same-length, SameRun, SameDone, verdict-same, accepted-same}
+use Rattle.lta_spec.proofs.SameRun.{AllSame, same-length, SameRun, SameDone, engine-is, beside}
+use Rattle.lta_spec.proofs.SameVerdict.{verdict-same}
+use Rattle.lta_spec.proofs.SameDone.{accepted-same}
 
 -- a related engine run fits the layout
 rows-ok : (n : ℕ) (xs ys : List Sample) (ls : List Ticks) → All (RowOk n) (map (row n xs ys) ls)
@@ -75,14 +79,9 @@ units-ok sh t (e ∷ es) [] a = absurd a
 units-ok sh t (e ∷ es) (m ∷ ms) a = (unit-ok sh t e m (a .0), units-ok sh t es ms (a .1))
 
 run-ok : (sh : Shape) (e : W.Run) (m : R.Run) → SameRun sh e m → RunOk sh e
-run-ok sh e m s = (
-  tt,
-  (
-    same-length sh (m .t) (e .units) (m .units) (s .units)
-        ∙ s .cells,
-    units-ok sh (m .t) (e .units) (m .units) (s .units),
-  ),
-)
+run-ok sh e m s =
+    let units = units-ok sh (m .t) (e .units) (m .units) (s .units) in
+    (tt, ((same-length sh (m .t) (e .units) (m .units) (s .units) ∙ s .cells, units), tt))
 
 -- the words of a related run: read back they are the run, and as many as the shape needs
 pub loaded : (sh : Shape) (e : W.Run) (m : R.Run) → SameRun sh e m → (runL sh) .get ((runL sh) .put e) ≡ e
@@ -103,13 +102,13 @@ pub record SameStep (sh : Shape) (e : S.Step) (m : R.Step) : Type 0 where
 module _ (sh : Shape) (wide : 2 ≤ sh .lags) (e : W.Run) (m : R.Run) (s : SameRun sh e m) (call : Call) where
   tests-same : firstOf (S.callTests sh call e) ≡ firstOf (R.callTests sh m call)
   tests-same =
-      subst (λ t. firstOf (S.callTests sh call (record { t = t; units = e .units })) ≡ firstOf (R.callTests sh m call))
-      (sym (s .t)) (verdict-same sh wide (m .t) (e .units) (m .units) (s .limit) (s .cells) (s .units) call)
+      subst (λ r. firstOf (S.callTests sh call r) ≡ firstOf (R.callTests sh m call)) (sym (engine-is sh e m s))
+      (verdict-same sh (e .units) m (beside sh e m s) call)
 
   done-same : firstOf (R.callTests sh m call) ≡ Accepted → SameDone sh (S.accepted sh call e) (R.accepted sh call m)
   done-same v =
-      subst (λ t. SameDone sh (S.accepted sh call (record { t = t; units = e .units })) (R.accepted sh call m))
-      (sym (s .t)) (accepted-same sh wide (m .t) (e .units) (m .units) (s .limit) (s .cells) (s .units) call v)
+      subst (λ r. SameDone sh (S.accepted sh call r) (R.accepted sh call m)) (sym (engine-is sh e m s))
+      (accepted-same sh (e .units) m (beside sh e m s) wide call v)
 
   -- the verdict, behind the tests of shape and length
   pub verdicts : S.verdict sh ((runL sh) .put e) call ≡ R.verdict sh m (memoryWords sh) call
@@ -215,10 +214,11 @@ over-replicate : {A : Type 0} (f : A → ℕ) (n : ℕ) (a : A) → f a ≡ 0 �
 over-replicate f zero a e = refl
 over-replicate f (suc n) a e = omega (arith, over-replicate f n a e)
 
-fresh-same : (sh : Shape) → 0 < sh .bins → 0 < sh .blocks
-    → Same sh 0 (E.freshUnit (sh .lags) (sh .bins)) (R.freshUnit sh)
-unfolding mapCell mapBin mapStamped M.binAt
-fresh-same sh some one =
+fresh-same : (sh : Shape) → Shaped sh → Same sh 0 (E.freshUnit (sh .lags) (sh .bins)) (R.freshUnit sh)
+unfolding mapCell mapBin mapStamped M.binAt M.readyBins
+fresh-same sh k =
+    let some = k .some-bins in
+    let one = k .some-blocks in
     let n = sh .lags in
     let B = sh .bins in
     let empty : window n [] ≡ zeros (depth n) =
@@ -226,6 +226,9 @@ fresh-same sh some one =
     record {
       cell = λ gx gy. simp map-replicate;
       counter = ap (λ o. record { offset = o; lastCode = 0 }) (omega arith);
+      picks =
+          ap (λ r. record { readyBins = r; next = 0 })
+          (sym (over-replicate (λ b. cond (M.isReady b) 1 0) (2 * B) M.freeBin refl));
       xs = sym empty;
       ys = sym empty;
       good =
@@ -238,6 +241,7 @@ fresh-same sh some one =
                   bins = λ k. subst (BinSound 0) (sym (getD-replicate (2 * B) k M.freeBin)) (omega arith);
                 };
             counter = record { low = omega arith; high = omega arith; command = refl };
+            picked = omega arith;
             once = λ f.
                 omega (
                   arith,
@@ -248,16 +252,18 @@ fresh-same sh some one =
           };
     }
 
-all-fresh : (sh : Shape) → 0 < sh .bins → 0 < sh .blocks → (k : ℕ)
+all-fresh : (sh : Shape) → Shaped sh → (k : ℕ)
     → AllSame sh 0 (replicate k (E.freshUnit (sh .lags) (sh .bins))) (replicate k (R.freshUnit sh))
-all-fresh sh some one zero = tt
-all-fresh sh some one (suc k) = (fresh-same sh some one, all-fresh sh some one k)
+all-fresh sh is zero = tt
+all-fresh sh is (suc k) = (fresh-same sh is, all-fresh sh is k)
 
-pub start-same : (sh : Shape) → 0 < sh .bins → 0 < sh .blocks → SameRun sh (W.start sh) (R.start sh)
-start-same sh some one =
+pub start-same : (sh : Shape) → Shaped sh → SameRun sh (W.start sh) (R.start sh)
+start-same sh is =
     record {
       t = refl;
       limit = omega arith;
       cells = length-replicate (sh .cells) (R.freshUnit sh);
-      units = all-fresh sh some one (sh .cells);
+      served = is .some-cells;
+      next = refl;
+      units = all-fresh sh is (sh .cells);
     }

@@ -9,7 +9,7 @@ use lib.Dec.{ltb}
 use lib.ListN.{length, getD, take, drop, length-append, drop-of-length-le, List·getD-map}
 use lib.Seq.{append-snoc, take-all}
 use borrow.Author.Tests.{ltb-true, ltb-false, eq-eqb, ne-eqb}
-use Rattle.lta_spec.specs.Words.{overAll}
+use Rattle.lta_spec.specs.Words.{overAll, numbersFrom}
 use Rattle.lta_spec.specs.Refusals.{decided}
 use Rattle.lta_spec.specs.Shape.{shapeOk, runLimit, openLimit}
 use Rattle.lta_spec.specs.Size.{memoryWords}
@@ -25,7 +25,7 @@ use Rattle.lta_spec.specs.Step as S
 use Rattle.lta_spec.specs.Demand.{Listed, AllStand, machineReturns, machineRun, machineStep}
 use Rattle.lta_spec.specs.Demand.{engineReturns, memAfter, machineAfter, isTick, timesIn}
 use Rattle.lta_spec.specs.Demand.Listed.{onRun, onOther}
-use Rattle.lta_spec.specs.Forecasts.{inTurn, tickTold, dumpTold, wellFormed, ticksFrom, openSet, holdoffSet}
+use Rattle.lta_spec.specs.Forecasts.{inTurn, tickTold, dumpTold, wellFormed, openSet, holdoffSet}
 use Rattle.lta_spec.specs.Forecasts.{cellsHeldOff, ForecastMeans}
 use Rattle.lta_spec.specs.declared.Shape.{Shape}
 use Rattle.lta_spec.specs.declared.Verdict.{Verdict}
@@ -40,46 +40,46 @@ use Rattle.lta_spec.proofs.Holdoff.{told, Kept, Ticked, Outcome, no-tic
 use Rattle.lta_spec.proofs.Holdoff.Outcome.{keeps, ticks}
 
 -- tick t + j among so many ticks from t on
-none-from : (i t many : ℕ) → i < t → timesIn i (ticksFrom t many) ≡ 0
+none-from : (i t many : ℕ) → i < t → timesIn i (numbersFrom t many) ≡ 0
 none-from i t zero h = refl
 none-from i t (suc many) h =
     rw (ne-eqb i t (omega arith)) (omega (arith, none-from i (suc t) many (omega arith)))
 
-one-from : (j t many : ℕ) → j < many → timesIn (t + j) (ticksFrom t many) ≡ 1
+one-from : (j t many : ℕ) → j < many → timesIn (t + j) (numbersFrom t many) ≡ 1
 one-from j t zero h = absurd (not-suc-le-zero h)
 one-from zero t (suc many) h =
     rw (eq-eqb (t + 0) t (omega arith)) (omega (arith, none-from (t + 0) (suc t) many (omega arith)))
 one-from (suc j) t (suc many) h =
     let next : t + suc j ≡ suc t + j = omega arith in
-    let later = ap (λ i. timesIn i (ticksFrom (suc t) many)) next ∙ one-from j (suc t) many (le-of-suc-le-suc h) in
+    let later = ap (λ i. timesIn i (numbersFrom (suc t) many)) next ∙ one-from j (suc t) many (le-of-suc-le-suc h) in
     rw (ne-eqb (t + suc j) t (omega arith)) (omega (arith, later))
 
-drop-from : (n t many : ℕ) → drop n (ticksFrom t many) ≡ ticksFrom (n + t) (many - n)
+drop-from : (n t many : ℕ) → drop n (numbersFrom t many) ≡ numbersFrom (n + t) (many - n)
 drop-from zero t many =
     let from : t ≡ 0 + t = omega arith in
     let all : many ≡ many - 0 = omega arith in
-    ap₂ ticksFrom from all
+    ap₂ numbersFrom from all
 drop-from (suc n) t zero =
     let none : 0 ≡ 0 - suc n = omega arith in
-    ap (ticksFrom (suc n + t)) none
+    ap (numbersFrom (suc n + t)) none
 drop-from (suc n) t (suc many) =
     let from : n + suc t ≡ suc n + t = omega arith in
     let all : many - n ≡ suc many - suc n = omega arith in
-    drop-from n (suc t) many ∙ ap₂ ticksFrom from all
+    drop-from n (suc t) many ∙ ap₂ numbersFrom from all
 
 -- a set that all but the first n of them join: tick t + j is there from j = n on
 counted-from : (s : Ticks) (n t many j : ℕ) → timesIn (t + j) s ≡ 0 → j < many
-    → timesIn (t + j) (s ++ drop n (ticksFrom t many)) ≡ cond (ltb j n) 0 1
+    → timesIn (t + j) (s ++ drop n (numbersFrom t many)) ≡ cond (ltb j n) 0 1
 counted-from s n t many j none h =
     rw (drop-from n t many)
-    (omega (arith, none, over-append (isTick (t + j)) s (ticksFrom (n + t) (many - n)), by-test (ltb j n) refl))
+    (omega (arith, none, over-append (isTick (t + j)) s (numbersFrom (n + t) (many - n)), by-test (ltb j n) refl))
   where
-    by-test : (b : Bool) → ltb j n ≡ b → timesIn (t + j) (ticksFrom (n + t) (many - n)) ≡ cond b 0 1
+    by-test : (b : Bool) → ltb j n ≡ b → timesIn (t + j) (numbersFrom (n + t) (many - n)) ≡ cond b 0 1
     by-test true e = none-from (t + j) (n + t) (many - n) (omega (arith, ltb-true j n e))
     by-test false e =
         let le = ltb-false j n e in
         let same : t + j ≡ (n + t) + (j - n) = omega arith in
-        ap (λ i. timesIn i (ticksFrom (n + t) (many - n))) same ∙ one-from (j - n) (n + t) (many - n) (omega arith)
+        ap (λ i. timesIn i (numbersFrom (n + t) (many - n))) same ∙ one-from (j - n) (n + t) (many - n) (omega arith)
 
 -- A tick with room, or without: what Open o still takes counts down, or is 0 and stays so. o₁ and h₁ are Open and loss
 -- 6 behind the tick, o′ and h′ behind the rest.
@@ -115,11 +115,11 @@ module _ (sh : Shape) (c : ℕ) where
     time : m′ .t ≡ m .t + length replies
     joins : openSet (R.unitAt sh c m′)
         ≡ openSet (R.unitAt sh c m)
-        ++ take (openLimit - length (openSet (R.unitAt sh c m))) (ticksFrom (m .t) (length replies))
+        ++ take (openLimit - length (openSet (R.unitAt sh c m))) (numbersFrom (m .t) (length replies))
     heldOff : holdoffSet (R.unitAt sh c m′)
         ≡ holdoffSet (R.unitAt sh c m)
-        ++ drop (openLimit - length (openSet (R.unitAt sh c m))) (ticksFrom (m .t) (length replies))
-    answers : replies ≡ map (cellsHeldOff m′) (ticksFrom (m .t) (length replies))
+        ++ drop (openLimit - length (openSet (R.unitAt sh c m))) (numbersFrom (m .t) (length replies))
+    answers : replies ≡ map (cellsHeldOff m′) (numbersFrom (m .t) (length replies))
     earlier : (i : ℕ) → i < m .t → cellsHeldOff m′ i ≡ cellsHeldOff m i
     reached : (many : ℕ) → many ≤ runLimit - m .t → many ≤ overAll (wellFormed sh) cs → many ≤ length replies
 
@@ -157,13 +157,14 @@ module _ (sh : Shape) (c : ℕ) where
   unfolding M.hasRoom
   tick-first l cs later m m′ s e same inside x b₀ =
       let t = m .t in
-      let run : R.Run = record { t = suc t; units = R.tickUnits t (x .samples) (m .units) } in
+      let run : R.Run =
+      record { t = suc t; served = m .served; units = R.tickUnits t (x .samples) (m .units) } in
       let b : Behind cs later run m′ = subst (λ r. Behind cs later r m′) (x .run) b₀ in
       let there : c < length (m .units) = omega (arith, same .cells) in
       let u = R.unitAt sh c m in
       let cell-is = tick-cell sh t (x .samples) (m .units) c (R.freshUnit sh) there in
       let both =
-      one-more (M.hasRoom (u .cell)) (openSet u) (holdoffSet u) t (ticksFrom (suc t) (length later))
+      one-more (M.hasRoom (u .cell)) (openSet u) (holdoffSet u) t (numbersFrom (suc t) (length later))
       (openSet (R.unitAt sh c run)) (holdoffSet (R.unitAt sh c run)) _ _ refl
       (ap (λ z. z .opened .members) cell-is ∙ tick-open t (u .cell))
       (ap six cell-is ∙ tick-six t (u .cell) (unit-same sh e m same c inside .good .sound .flat .losses)) (b .joins)
@@ -236,7 +237,7 @@ module _ (sh : Shape) (c : ℕ) where
       none
 
 -- a list behind another
-run-append : (sh : Shape) (xs ys : List Listed) (r : R.Run)
+pub run-append : (sh : Shape) (xs ys : List Listed) (r : R.Run)
     → machineRun sh (xs ++ ys) r ≡ machineRun sh ys (machineRun sh xs r)
 unfolding machineRun
 run-append sh [] ys r = refl
@@ -264,7 +265,7 @@ forecast-means sh ok before behind stand stand′ c n f none =
     let k = shaped sh ok in
     let wide = k .some-lags in
     let m = machineAfter sh before in
-    let x = follow sh wide before stand (W.start sh) (R.start sh) (start-same sh (k .some-bins) (k .some-blocks)) in
+    let x = follow sh wide before stand (W.start sh) (R.start sh) (start-same sh k) in
     let tells : engineReturns sh behind (memAfter sh before) ≡ machineReturns sh behind m =
     ap (engineReturns sh behind) (x .mem) ∙ follow sh wide behind stand′ (x .run) m (x .same) .tells in
     let p =

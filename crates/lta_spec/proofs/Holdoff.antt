@@ -1,5 +1,5 @@
 -- One call of the plain machine: what it makes of a cell's Open, and of loss 6 of every cell.
-use Prim.Native.Nat.{ℕ, zero, suc, _+_, _≤_, _<_}
+use Prim.Native.Nat.{ℕ, zero, suc, _+_, _/_, _%_, _≤_, _<_}
 use mathlib.Core.Path.{_≡_, refl, sym, ap, ap₂, _∙_}
 use mathlib.Core.Bool.{Bool, true, false, cond, not, _&&_}
 use mathlib.Core.List.{List, [], _∷_, _++_, map, append-nil}
@@ -15,7 +15,7 @@ use Rattle.lta_spec.specs.Shape.{shapeOk, runLimit}
 use Rattle.lta_spec.specs.Size.{memoryWords, hostTests}
 use Rattle.lta_spec.specs.Place.{Label, Bin, Cell, ordered, overrun, full, replaced, tooWide, holdoff, lossCount}
 use Rattle.lta_spec.specs.Call.{Call, lentTo, samplesOk, validityOk, speed, idle}
-use Rattle.lta_spec.specs.Call.Call.{tick, dump, integrate, emit, reading, forecast, page}
+use Rattle.lta_spec.specs.Call.Call.{tick, dump, integrate, emit, reading, forecast, page, pick}
 use Rattle.lta_spec.specs.Answer.{refusal}
 use Rattle.lta_spec.specs.Machine as M
 use Rattle.lta_spec.specs.Machine.{Ticks}
@@ -171,7 +171,7 @@ module _ (sh : Shape) (t : ℕ) where
   tick-cell samples (u ∷ us) (suc c) d h = tick-cell (drop 3 samples) us c d (le-of-suc-le-suc h)
 
 -- one element set anew: what f says of an element stays, if it does of that one where it is meant
-kept-at : {A B : Type 0} (f : A → B) (us : List A) (d c : ℕ) (u d₀ : A) → (d ≡ c → f u ≡ f (getD us d d₀))
+pub kept-at : {A B : Type 0} (f : A → B) (us : List A) (d c : ℕ) (u d₀ : A) → (d ≡ c → f u ≡ f (getD us d d₀))
     → f (getD (set us d u) c d₀) ≡ f (getD us c d₀)
 kept-at f [] d c u d₀ h = refl
 kept-at f (x ∷ us) zero zero u d₀ h = h refl
@@ -197,7 +197,8 @@ module _ (sh : Shape) (c : ℕ) where
   pub record Ticked (l : Listed) (m : R.Run) (s : R.Step) : Type 0 where
     pub samples : List ℕ
     pub one : tickTold l (told s) ≡ R.heldOff (m .units) ∷ []
-    pub run : s .run ≡ record { t = suc (m .t); units = R.tickUnits (m .t) samples (m .units) }
+    pub run : s .run
+        ≡ record { t = suc (m .t); served = m .served; units = R.tickUnits (m .t) samples (m .units) }
     pub single : wellFormed sh l ≤ 1
 
   pub data Outcome (l : Listed) (m : R.Run) (s : R.Step) : Type 0 where
@@ -238,6 +239,7 @@ module _ (sh : Shape) (c : ℕ) where
     refused-keeps (reading d lag loss) why v = no-tick _ m _ refl refl refl refl refl
     refused-keeps (forecast d) why v = no-tick _ m _ refl refl refl refl refl
     refused-keeps (page out) why v = no-tick _ m _ refl refl refl refl refl
+    refused-keeps (pick out) why v = no-tick _ m _ refl refl refl refl refl
 
     -- an accepted dump of another cell, or 111
     dump-does : (d command bank phase : ℕ) (out : List ℕ) (k : M.Counter) (b : Bool) → eqb command speed ≡ b
@@ -259,9 +261,29 @@ module _ (sh : Shape) (c : ℕ) where
         (λ same. dump-open _ command _ _ _ _ _ (rw (eq-eqb d c same) at none)))
         (map-set-same holdoffSet (m .units) d _ (R.freshUnit sh) (dump-six _ _ _ _ _ _)))
 
+    -- an emission, by name or by a pick
+    module _ (d bank bin : ℕ) (out : List ℕ) where
+      emit-open : openSet (R.unitAt sh c ((R.emits sh d bank bin out m) .run)) ≡ openSet (R.unitAt sh c m)
+      unfolding R.emits R.sends R.withFrame M.emptyBin
+      emit-open = kept-at openSet (m .units) d c _ (R.freshUnit sh) (λ same. refl)
+
+      emit-losses : map holdoffSet ((R.emits sh d bank bin out m) .run .units) ≡ map holdoffSet (m .units)
+      unfolding R.emits R.sends R.withFrame M.emptyBin
+      emit-losses = map-set-same holdoffSet (m .units) d _ (R.freshUnit sh) refl
+
+    module _ (r : R.Run) (d k : ℕ) where
+      picked-open : openSet (R.unitAt sh c (R.pickedFrom sh d k r)) ≡ openSet (R.unitAt sh c r)
+      unfolding R.pickedFrom
+      picked-open = kept-at openSet (r .units) d c _ (R.freshUnit sh) (λ same. refl)
+
+      picked-losses : map holdoffSet ((R.pickedFrom sh d k r) .units) ≡ map holdoffSet (r .units)
+      unfolding R.pickedFrom
+      picked-losses = map-set-same holdoffSet (r .units) d _ (R.freshUnit sh) refl
+
     accepted-does : (call : Call) → firstOf (R.callTests sh m call) ≡ Accepted
         → dumpTold c (onRun call) (told (R.accepted sh call m)) ≡ [] → Outcome (onRun call) m (R.accepted sh call m)
-    unfolding R.accepted R.sends R.withDump R.withCell R.withFrame M.integrateCell M.integrateAt M.emptyBin
+    unfolding
+        R.accepted R.emits R.picks R.pickedFrom R.sends R.withDump R.withFrame R.withCell M.integrateCell M.integrateAt
     accepted-does (tick samples) v none =
         let a = pass (samplesOk (sh .cells) samples) _ _ v in
         let d = pass (validityOk (sh .cells) samples) _ _ (a .1) in
@@ -274,12 +296,21 @@ module _ (sh : Shape) (c : ℕ) where
         (map-set-same holdoffSet (m .units) d _ (R.freshUnit sh) (integrate-six _ _ _ _ _ _)))
     accepted-does (emit d bank bin out) v none =
         keeps
-        (no-tick _ m _ refl refl refl
-        (kept-at openSet (m .units) d c _ (R.freshUnit sh) (λ same. refl))
-        (map-set-same holdoffSet (m .units) d _ (R.freshUnit sh) refl))
+        (no-tick _ m (R.emits sh d bank bin out m) refl refl refl (emit-open d bank bin out)
+        (emit-losses d bank bin out))
     accepted-does (reading d lag loss) v none = keeps (no-tick _ m _ refl refl refl refl refl)
     accepted-does (forecast d) v none = keeps (no-tick _ m _ refl refl refl refl refl)
     accepted-does (page out) v none = keeps (no-tick _ m _ refl refl refl refl refl)
+    accepted-does (pick out) v none =
+        let d = R.pickedCell sh m in
+        let u = R.unitAt sh d m in
+        let k = M.pickedBin (sh .bins) (u .picked) (u .cell) in
+        let bank = k / sh .bins in
+        let bin = k % sh .bins in
+        let r = (R.emits sh d bank bin out m) .run in
+        keeps
+        (no-tick _ m (R.picks sh out m) refl refl refl (picked-open r d k ∙ emit-open d bank bin out)
+        (picked-losses r d k ∙ emit-losses d bank bin out))
 
     -- every call on the run that is no accepted dump of cell c but 111
     pub step-does : 2 ≤ sh .lags → (e : W.Run) → SameRun sh e m → (call : Call)

@@ -1,7 +1,7 @@
 -- The engine's tests of 11 pass on a cell whose places hold the rows of a sound cell's sets.
 use Prim.Native.Nat.{ℕ, zero, suc, _+_, _*_, _≤_, _<_}
-use mathlib.Core.Path.{_≡_, refl, ap₂}
-use mathlib.Core.Bool.{Bool, true, false, cond, _&&_, _||_}
+use mathlib.Core.Path.{_≡_, refl, ap₂, subst}
+use mathlib.Core.Bool.{Bool, true, false, cond, _||_}
 use mathlib.Core.List.{List, [], _∷_, map}
 use native.Mathlib.Omega.{arith}
 use lib.Dec.{leb, eqb}
@@ -17,20 +17,18 @@ use Rattle.lta_spec.specs.Machine.{Ticks}
 use Rattle.lta_spec.specs.Engine as E
 use Rattle.lta_spec.specs.Engine.{Row}
 use Rattle.lta_spec.specs.Damage as D
+use Rattle.lta_spec.proofs.TestLaws.{both}
 use Rattle.lta_spec.proofs.RowLaws.{numbers-size, row-ok, window, window-ok}
 use Rattle.lta_spec.proofs.Carry.{row, mapStamped, mapBin, mapCell, bin-carry, loss-carry}
 use Rattle.lta_spec.proofs.WordLaws.{over-at}
 use Rattle.lta_spec.proofs.Conserve.{overCell}
 use Rattle.lta_spec.proofs.Sound.{Sound}
 
-both : {a b : Bool} → a ≡ true → b ≡ true → a && b ≡ true
-both p q = rw (p, q)
-
 either : (a b : Bool) → b ≡ true → a || b ≡ true
 either true b e = refl
 either false b e = e
 
-every-map : {A : Type 0} (f : Row → Bool) (g : A → Row) (d : A) (l : List A)
+every-map : {A B : Type 0} (f : B → Bool) (g : A → B) (d : A) (l : List A)
     → ((k : ℕ) → f (g (getD l k d)) ≡ true) → every f (map g l) ≡ true
 every-map f g d [] h = refl
 every-map f g d (x ∷ xs) h = both (h 0) (every-map f g d xs (λ k. h (suc k)))
@@ -109,10 +107,10 @@ module _ (n B t : ℕ) (xs ys : List Sample) (c : Cell Ticks) (s : Sound B t c) 
     unfolding mapBin mapStamped
     bin-size k = rw (bin-carry n xs ys k c) (numbers-size n xs ys ((M.binAt k c) .content .members))
 
-    pub tick-intact : (k : E.Counter) (wx wy : List Sample) → t < runLimit
-        → D.tickSound n t (record { cell = e; counter = k; xs = window n wx; ys = window n wy }) ≡ true
+    pub tick-intact : (k : E.Counter) (p : E.Picks) (wx wy : List Sample) → t < runLimit
+        → D.tickSound n t (record { cell = e; counter = k; picks = p; xs = window n wx; ys = window n wy }) ≡ true
     unfolding D.tickSound
-    tick-intact k wx wy l =
+    tick-intact k p wx wy l =
         both (both (window-ok n wx) (window-ok n wy))
         (both open-ok (both losses-ok (either (E.hasRoom n e) _ (holds 5 1 (omega arith)))))
 
@@ -152,6 +150,13 @@ module _ (n B t : ℕ) (xs ys : List Sample) (c : Cell Ticks) (s : Sound B t c) 
     pub emit-intact : (k : ℕ) → D.emitSound n t k e ≡ true
     unfolding D.emitSound
     emit-intact k = bin-ok k
+
+    -- of a pick: every bin
+    pub bins-intact : every (D.binOk t) (e .bins) ≡ true
+    unfolding mapCell mapBin mapStamped M.binAt
+    bins-intact =
+        every-map (D.binOk t) (mapBin (row n xs ys)) M.freeBin (c .bins)
+        (λ k. subst (λ b. D.binOk t b ≡ true) (bin-carry n xs ys k c) (bin-ok k))
 
     pub read-intact : D.readSound e ≡ true
     read-intact = losses-ok

@@ -1,5 +1,6 @@
--- What follows from the definitions of specs/: laws for the proofs of the other crates, and the eight statements of
--- specs/: Encoding, RoundTrip (in EmittedBack), Demand, Forecasts, LossPages, Edges, SpeedRows and AnswerOrder.
+-- What follows from the definitions of specs/: laws for the proofs of the other crates, and the ten statements of
+-- specs/: Encoding, RoundTrip (in EmittedBack), Demand, Forecasts, LossPages, Fairness, Edges, SpeedRows, PickRows and
+-- AnswerOrder.
 pub mod WordLaws
 pub mod DecimalLaws
 pub mod TestLaws
@@ -19,15 +20,21 @@ pub mod LedgerLaws
 pub mod LayoutLaws
 pub mod MemoryLaws
 pub mod BlockLaws
-pub mod Passed
-pub mod EmittedBack
+pub mod PickLaws
 pub mod Carry
+pub mod ReadyLaws
+pub mod Passed
+pub mod PickPassed
+pub mod EmittedBack
 pub mod Conserve
 pub mod Sound
 pub mod LabelLaws
 pub mod Intact
 pub mod SameCell
 pub mod SameRun
+pub mod SamePick
+pub mod SameVerdict
+pub mod SameDone
 pub mod Follow
 pub mod Clean
 pub mod Totals
@@ -37,7 +44,10 @@ pub mod Demand
 pub mod Holdoff
 pub mod Forecasts
 pub mod LossPages
+pub mod PickSteps
+pub mod Fairness
 pub mod BlockRows
 pub mod Edges
 pub mod SpeedRows
+pub mod PickRows
 pub mod AnswerOrder

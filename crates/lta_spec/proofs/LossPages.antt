@@ -18,6 +18,7 @@ use Rattle.lta_spec.specs.Page.{Within, pageLimit, countsSum, lineBytes,
 use Rattle.lta_spec.specs.Page.{pageOf, pageLength}
 use Rattle.lta_spec.specs.Call.Call.{page}
 use Rattle.lta_spec.specs.Numbers.{setCounts}
+use Rattle.lta_spec.specs.Machine.Latest.{none}
 use Rattle.lta_spec.specs.MachineRun as R
 use Rattle.lta_spec.specs.Row.{emptyRow, rowOk, rowCounts}
 use Rattle.lta_spec.specs.Engine as E
@@ -44,7 +45,7 @@ use Rattle.lta_spec.proofs.PageLaws.{ledger-lines-count, ledger-lines-l
 use Rattle.lta_spec.proofs.PageLaws.{ledger-line-at, none-within, within-more, within-added, losses-within}
 use Rattle.lta_spec.proofs.PageLaws.{rows-within}
 use Rattle.lta_spec.proofs.LedgerLaws.{counts-append}
-use Rattle.lta_spec.proofs.SameRun.{ledger-same}
+use Rattle.lta_spec.proofs.SameDone.{ledger-same}
 use Rattle.lta_spec.proofs.Follow.{Followed, follow, verdicts, loaded, start-same}
 
 -- a number of a sum is the sum of the numbers
@@ -231,8 +232,8 @@ passed sh mem out v =
     let o = (run-law sh) .fits mem long in
     record {
       cells = shaped sh (s .0) .cells;
-      count = o .1 .0;
-      units = o .1 .1;
+      count = o .1 .0 .0;
+      units = o .1 .0 .1;
       sound = and-both (leb (r .t) runLimit) _ (x .0) .1;
       room = leb-true _ _ (y .0);
     }
@@ -313,7 +314,7 @@ module _ (sh : Shape) (ok : shapeOk sh ≡ true) (cs : List Listed) (stand : All
   followed : Followed sh cs (W.start sh) (R.start sh)
   followed =
       let k = shaped sh ok in
-      follow sh (k .some-lags) cs stand (W.start sh) (R.start sh) (start-same sh (k .some-bins) (k .some-blocks))
+      follow sh (k .some-lags) cs stand (W.start sh) (R.start sh) (start-same sh k)
 
   machine-accepts : R.verdict sh m (memoryWords sh) (page out) ≡ Accepted
   unfolding R.verdict hostTests pageLength
@@ -328,7 +329,7 @@ module _ (sh : Shape) (ok : shapeOk sh ≡ true) (cs : List Listed) (stand : All
   -- the totals: those of the lines, which are the machine's
   over-joined : (q : Number) (us : List R.Unit)
       → overAll (numberOf q) (joined (map (R.lossCounts (sh .lags)) us))
-      ≡ overLedger (sh .lags) q (record { t = 0; units = us })
+      ≡ overLedger (sh .lags) q (record { t = 0; served = none; units = us })
   over-joined q [] = refl
   over-joined q (u ∷ us) =
       over-append (numberOf q) (R.lossCounts (sh .lags) u) _

@@ -9,7 +9,7 @@ use Rattle.lta_spec.specs.Size.{rowWords, depth, binWords, cellWords, me
 use Rattle.lta_spec.specs.Place.{Bin, lossCount}
 use Rattle.lta_spec.specs.Layout.{word, block, pair, many, fields}
 use Rattle.lta_spec.specs.Engine.{Row, Unit}
-use Rattle.lta_spec.specs.Memory.{ofBin, toBin, binL, ofUnit, toUnit, unitL, Run, runL}
+use Rattle.lta_spec.specs.Memory.{ofBin, toBin, binL, ofUnit, toUnit, unitL, Run, ofRun, toRun, runL}
 use Rattle.lta_spec.specs.declared.Shape.{Shape}
 use Rattle.lta_spec.proofs.TestLaws.{and-le}
 use Rattle.lta_spec.proofs.LayoutLaws.{
@@ -60,18 +60,26 @@ module _ (n bins : ℕ) where
       law-as
       (λ u o.
       record {
-        opened = o .1 .1 .1 .1 .1 .1 .1 .1 .0;
-        held = o .1 .1 .1 .1 .1 .1 .1 .1 .1 .0;
-        losses = o .1 .1 .1 .1 .1 .1 .1 .1 .1 .1 .0;
-        xs = o .1 .1 .1 .1 .1 .1 .1 .1 .1 .1 .1 .0;
-        ys = o .1 .1 .1 .1 .1 .1 .1 .1 .1 .1 .1 .1 .0;
-        bins = o .1 .1 .1 .1 .1 .1 .1 .1 .1 .1 .1 .1 .1;
+        opened = o .1 .1 .1 .1 .1 .1 .1 .1 .1 .1 .0;
+        held = o .1 .1 .1 .1 .1 .1 .1 .1 .1 .1 .1 .0;
+        losses = o .1 .1 .1 .1 .1 .1 .1 .1 .1 .1 .1 .1 .0;
+        xs = o .1 .1 .1 .1 .1 .1 .1 .1 .1 .1 .1 .1 .1 .0;
+        ys = o .1 .1 .1 .1 .1 .1 .1 .1 .1 .1 .1 .1 .1 .1 .0;
+        bins = o .1 .1 .1 .1 .1 .1 .1 .1 .1 .1 .1 .1 .1 .1 .1;
       })
       (λ u o. (
         tt,
-        (tt, (tt, (tt, (tt, (tt, (tt, (tt, (o .opened, (o .held, (o .losses, (o .xs, (o .ys, o .bins)))))))))))),
+        (
+          tt,
+          (
+            tt,
+            (tt, (tt, (tt, (tt, (tt, (tt, (tt, (o .opened, (o .held, (o .losses, (o .xs, (o .ys, o .bins)))))))))))),
+          ),
+        ),
       ))
       (fields-law ofUnit toUnit (λ x. refl) (λ y. refl)
+      (pair-law word-law
+      (pair-law word-law
       (pair-law word-law
       (pair-law word-law
       (pair-law word-law
@@ -84,7 +92,7 @@ module _ (n bins : ℕ) where
       (pair-law (row-law n)
       (pair-law (many-law (row-law n) lossCount)
       (pair-law (block-law (depth n))
-      (pair-law (block-law (depth n)) (many-law (bin-law n) (2 * bins))))))))))))))))
+      (pair-law (block-law (depth n)) (many-law (bin-law n) (2 * bins))))))))))))))))))
 
   pub unit-width : (unitL n bins) .width ≡ cellWords n bins
   unfolding unitL fields pair word block many
@@ -93,17 +101,17 @@ module _ (n bins : ℕ) where
 -- a run
 module _ (sh : Shape) where
   abbrev pub RunOk : Run → Type 0
-  RunOk r = Any (r .t) × Each (sh .cells) (UnitOk (sh .lags) (sh .bins)) (r .units)
+  RunOk r = Any (r .t) × (Each (sh .cells) (UnitOk (sh .lags) (sh .bins)) (r .units) × Any (r .next))
 
   pub run-law : Law (runL sh) RunOk
   unfolding runL
   run-law =
-      fields-law (λ r. (r .t, r .units)) (λ x. record { t = x .0; units = x .1 }) (λ x. refl) (λ y. refl)
-      (pair-law word-law (many-law (unit-law (sh .lags) (sh .bins)) (sh .cells)))
+      fields-law ofRun toRun (λ x. refl) (λ y. refl)
+      (pair-law word-law (pair-law (many-law (unit-law (sh .lags) (sh .bins)) (sh .cells)) word-law))
 
   pub run-width : (runL sh) .width ≡ memoryWords sh
   unfolding runL fields pair word many memoryWords
-  run-width = ap (λ k. 1 + sh .cells * k) (unit-width (sh .lags) (sh .bins))
+  run-width = omega (arith, ap (λ k. sh .cells * k) (unit-width (sh .lags) (sh .bins)))
 
 -- "never above C × (2B + 32) × (4N + 64)"
 pub memory-bound : (sh : Shape) → shapeOk sh ≡ true
@@ -114,7 +122,7 @@ memory-bound sh ok =
     let wide = (2 * sh .bins + 32) * (4 * n + 64) in
     let some = and-le 1 (sh .cells) _ ok .0 in
     let bins : 2 * sh .bins * binWords n ≤ 2 * sh .bins * (4 * n + 64) = mul-le-mul-left (2 * sh .bins) (omega arith) in
-    let cell : suc (cellWords n (sh .bins)) ≤ wide = rw (add-mul (2 * sh .bins) 32 (4 * n + 64)) (omega arith) in
-    let all : sh .cells * suc (cellWords n (sh .bins)) ≤ sh .cells * wide = mul-le-mul-left (sh .cells) cell in
+    let cell : suc (suc (cellWords n (sh .bins))) ≤ wide = rw (add-mul (2 * sh .bins) 32 (4 * n + 64)) (omega arith) in
+    let all : sh .cells * suc (suc (cellWords n (sh .bins))) ≤ sh .cells * wide = mul-le-mul-left (sh .cells) cell in
     rw (mul-assoc (sh .cells) (2 * sh .bins + 32) (4 * n + 64))
-    (omega (arith, mul-suc (sh .cells) (cellWords n (sh .bins))))
+    (omega (arith, mul-suc (sh .cells) (suc (cellWords n (sh .bins))), mul-suc (sh .cells) (cellWords n (sh .bins))))

@@ -2,12 +2,12 @@
 -- test of 11.
 use Prim.Native.Nat.{ℕ, _+_, _*_, _≤_, _<_}
 use mathlib.Core.Path.{_≡_, refl, sym, _∙_}
-use mathlib.Core.Bool.{Bool, true, false, _&&_, _||_}
+use mathlib.Core.Bool.{Bool, true, false, not, _&&_, _||_}
 use mathlib.Core.List.{List}
 use native.Mathlib.Omega.{arith}
 use lib.Dec.{leb, ltb, eqb}
 use lib.ListN.{length}
-use borrow.Author.Tests.{leb-true, ltb-true, eqb-true}
+use borrow.Author.Tests.{leb-true, ltb-true, eqb-true, eqb-false, not-true}
 use Rattle.lta_spec.specs.Refusals.{firstOf}
 use Rattle.lta_spec.specs.Shape.{shapeOk, runLimit, openLimit}
 use Rattle.lta_spec.specs.Size.{memoryWords, hostTests}
@@ -22,6 +22,8 @@ use Rattle.lta_spec.specs.Step as S
 use Rattle.lta_spec.specs.declared.Shape.{Shape}
 use Rattle.lta_spec.specs.declared.Verdict.the-variants.{Accepted}
 use Rattle.lta_spec.proofs.TestLaws.{and-both, and-le, pass, pass-both, first-append}
+use Rattle.lta_spec.proofs.LayoutLaws.{all-get}
+use Rattle.lta_spec.proofs.MemoryLaws.{UnitOk, run-law, run-width}
 use Rattle.lta_spec.proofs.BlockLaws.{offset-below, phase-below}
 
 -- 6 leaves the commands up to 111
@@ -44,13 +46,33 @@ module _ (n bins blocks t command : ℕ) (u : E.Unit) (ok : D.dumpUnitSound n bi
   unfolding D.dumpSound D.dumpParts
   open-tested = and-both (D.openOk t (u .cell)) _ (and-both (D.dumpParts bins t (u .cell)) _ (dump-tested .1) .0) .0
 
+-- work memory of the right length: cell c of its run has its words
+pub unit-sized : (sh : Shape) (mem : List ℕ) (c : ℕ) → length mem ≡ memoryWords sh → c < sh .cells
+    → UnitOk (sh .lags) (sh .bins) (S.unitAt sh c ((runL sh) .get mem))
+unit-sized sh mem c words inside =
+    let n = sh .lags in
+    let B = sh .bins in
+    let ok = (run-law sh) .fits mem (omega (arith, run-width sh, words)) in
+    all-get (UnitOk n B) (((runL sh) .get mem) .units) (E.freshUnit n B) (ok .1 .0 .1) c
+    (omega (arith, ok .1 .0 .0, inside))
+
+-- 11 at an emission: the Ready number is not 0 where the bin is Ready
+number-some : (bins number : ℕ) (isReady : Bool) → isReady ≡ true → D.numberFits bins number isReady ≡ true
+    → 1 ≤ number
+unfolding D.numberFits
+number-some bins number isReady is ok =
+    let fits : leb number (2 * bins) && not (eqb number 0) ≡ true = rw is at ok in
+    let other : number ≡ 0 → ⊥ =
+    eqb-false number 0 (not-true _ (and-both (leb number (2 * bins)) (not (eqb number 0)) fits .1)) in
+    omega arith
+
 module _ (sh : Shape) (mem : List ℕ) where
   abbrev run : Run
   run = (runL sh) .get mem
 
   -- 1 and 2, and the call's own
   module _ (call : Call) (v : S.verdict sh mem call ≡ Accepted) where
-    tests : (firstOf (hostTests sh (length mem)) ≡ Accepted) × (firstOf (S.callTests sh call run) ≡ Accepted)
+    pub tests : (firstOf (hostTests sh (length mem)) ≡ Accepted) × (firstOf (S.callTests sh call run) ≡ Accepted)
     unfolding S.verdict
     tests = pass-both (firstOf (hostTests sh (length mem))) _ (sym (first-append (hostTests sh (length mem)) _) ∙ v)
 
@@ -103,24 +125,30 @@ module _ (sh : Shape) (mem : List ℕ) where
     pub inBins : bin < sh .bins
     pub time : run .t ≤ runLimit
     pub sound : D.emitSound (sh .lags) (run .t) (binIndex (sh .bins) bank bin) (S.cellAt sh c run) ≡ true
+    -- there is a Ready bin to count off
+    pub some : 1 ≤ (S.unitAt sh c run) .picks .readyBins
     pub room : frameLength accumulated (sh .lags) ≤ bytes
 
   pub emit-passed : (c bank bin : ℕ) (out : List ℕ) → S.verdict sh mem (emit c bank bin out) ≡ Accepted
       → EmitPassed c bank bin (length out)
+  unfolding D.emitUnitSound
   emit-passed c bank bin out v =
       let k = binIndex (sh .bins) bank bin in
       let x = pass (ltb c (sh .cells)) _ _ (tests (emit c bank bin out) v .1) in
       let y = pass (bankOk bank && ltb bin (sh .bins)) _ _ (x .1) in
-      let z = pass (leb (run .t) runLimit && D.emitSound (sh .lags) (run .t) k (S.cellAt sh c run)) _ _ (y .1) in
+      let u = S.unitAt sh c run in
+      let z = pass (leb (run .t) runLimit && D.emitUnitSound (sh .lags) (sh .bins) (run .t) k u) _ _ (y .1) in
       let q = pass (eqb ((E.binAt (sh .lags) k (S.cellAt sh c run)) .state) ready) _ _ (z .1) in
       let w = pass (leb (frameLength accumulated (sh .lags)) (length out)) _ _ (q .1) in
       let named = and-both (bankOk bank) _ (y .0) in
       let t = and-le (run .t) runLimit _ (z .0) in
+      let s = and-both (D.emitSound (sh .lags) (run .t) k (u .cell)) _ (t .1) in
       record {
         inCells = ltb-true c (sh .cells) (x .0);
         inBanks = ltb-true bank 2 (named .0);
         inBins = ltb-true bin (sh .bins) (named .1);
         time = t .0;
-        sound = t .1;
+        sound = s .0;
+        some = number-some (sh .bins) (u .picks .readyBins) _ (q .0) (s .1);
         room = leb-true _ _ (w .0);
       }

@@ -30,7 +30,7 @@ use Rattle.lta_spec.proofs.LayoutLaws.{All}
 use Rattle.lta_spec.proofs.EmittedBack.{row-back}
 use Rattle.lta_spec.proofs.Carry.{row, mapStamped}
 use Rattle.lta_spec.proofs.SameCell.{Sent}
-use Rattle.lta_spec.proofs.SameRun.{set-frame}
+use Rattle.lta_spec.proofs.SameDone.{set-frame}
 
 -- I and Q of a lag stand side by side among the lag pairs of a set
 sums-at : (n : ℕ) (xs ys : List Sample) (s : Ticks) (m k j i : ℕ) → k + j ≡ i → j < m

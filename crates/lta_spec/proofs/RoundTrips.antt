@@ -307,7 +307,7 @@ unfolding header
 header-below f v = below-with (peak * f .ticks) f v (omega (arith, v .ticks))
 
 -- the fields of a header's words are the fields
-w0-parts : (k c : ℕ) → k ≤ 3 → c ≤ 15 → let w = k + 2048 * c in (w % 8 ≡ k) × (w / 2048 % 16 ≡ c)
+pub w0-parts : (k c : ℕ) → k ≤ 3 → c ≤ 15 → let w = k + 2048 * c in (w % 8 ≡ k) × (w / 2048 % 16 ≡ c)
 w0-parts k c hk hc = (omega arith, omega arith)
 
 w1-parts : (k b n : ℕ) → k ≤ 255 → b ≤ 999 → n ≤ 1

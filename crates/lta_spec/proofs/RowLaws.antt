@@ -18,9 +18,9 @@ use Rattle.lta_spec.specs.Row.{ticksOf, edgeOf, centreOf, emptyRow, bias
 use Rattle.lta_spec.specs.Row.{fromWord, entryOk}
 use Rattle.lta_spec.specs.Machine.{Ticks}
 use Rattle.lta_spec.specs.Numbers.{upTo}
-use Rattle.lta_spec.proofs.TestLaws.{and-both, and-le, every-take}
+use Rattle.lta_spec.proofs.TestLaws.{bit-small, and-both, and-le, every-take}
 use Rattle.lta_spec.proofs.TickLaws.{Sampled, sample-small, inPhase-bound, quadrature-bound}
-use Rattle.lta_spec.proofs.TickLaws.{storedEntry, bit-small, entry-ok, entry-is}
+use Rattle.lta_spec.proofs.TickLaws.{storedEntry, entry-ok, entry-is}
 
 -- sums of rows
 pub sums-assoc : (a b c : List ℕ) → sums (sums a b) c ≡ sums a (sums b c)

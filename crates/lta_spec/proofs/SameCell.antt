@@ -1,5 +1,5 @@
 -- The engine's cell and the machine's: what relates them, and that ticks, dumps, integrations and emissions keep it.
-use Prim.Native.Nat.{ℕ, zero, suc, _≤_, _<_}
+use Prim.Native.Nat.{ℕ, zero, suc, _*_, _≤_, _<_}
 use mathlib.Core.Path.{_≡_, refl, sym, ap, ap₂, _∙_, subst, fun-ext}
 use mathlib.Core.Bool.{true, false}
 use mathlib.Core.List.{List, [], _∷_, _++_, map}
@@ -11,12 +11,13 @@ use borrow.Author.Tests.{eqb-false}
 use Rattle.lta_spec.specs.Words.{overAll}
 use Rattle.lta_spec.specs.Tick.{Sample, fromSample}
 use Rattle.lta_spec.specs.Shape.{binLimit}
-use Rattle.lta_spec.specs.Place.{Label, Cell}
+use Rattle.lta_spec.specs.Place.{Label, Cell, ready}
 use Rattle.lta_spec.specs.Frame.{accumulated, speedFrame, kindOk}
 use Rattle.lta_spec.specs.Call.{idle, discard, commandOk, binIndex}
 use Rattle.lta_spec.specs.Row.{tickRow, fromWord}
 use Rattle.lta_spec.specs.Machine as M
-use Rattle.lta_spec.specs.Machine.{Ticks}
+use Rattle.lta_spec.specs.Machine.{Ticks, Latest}
+use Rattle.lta_spec.specs.Machine.Latest.{was}
 use Rattle.lta_spec.specs.Numbers.{Emitted}
 use Rattle.lta_spec.specs.MachineRun as R
 use Rattle.lta_spec.specs.Engine as E
@@ -28,6 +29,8 @@ use Rattle.lta_spec.proofs.LayoutLaws.{All}
 use Rattle.lta_spec.proofs.TickLaws.{storedEntry}
 use Rattle.lta_spec.proofs.RowLaws.{numbers-one, window, window-shift, ago-window, row-same}
 use Rattle.lta_spec.proofs.BlockLaws.{stored, CounterSound, counted-same, counted-sound}
+use Rattle.lta_spec.proofs.PickLaws.{Among, nextOf}
+use Rattle.lta_spec.proofs.ReadyLaws.{tick-ready, dump-ready, send-ready, empty-ready, integrate-ready}
 use Rattle.lta_spec.proofs.Carry.{row, mapCell, mapResult, tick-carry, dump-carry, send-carry, integrate-carry}
 use Rattle.lta_spec.proofs.Carry.{empty-carry}
 use Rattle.lta_spec.proofs.Conserve.{tally, tally-ones, overCell, over-places}
@@ -57,14 +60,20 @@ pub record Good (sh : Shape) (t : ℕ) (m : R.Unit) : Type 0 where
   pub takenY : length (m .ys) ≡ t
   pub sound : Sound (sh .bins) t (m .cell)
   pub counter : CounterSound (sh .start) (sh .blocks) (m .counter)
+  pub picked : Among (2 * sh .bins) (m .picked)
   -- any quantity of the ticks: its sum over the places is its sum over the ticks taken
   pub once : (f : ℕ → ℕ) → overAll (tally f) (places m) ≡ tally f (ticksBelow t)
   pub frames : All (Sent (sh .bins) t) (m .frames)
+
+-- what the engine stores of a cell's picks
+abbrev pub storedPicks : (B : ℕ) → Cell Ticks → Latest → E.Picks
+storedPicks B c picked = record { readyBins = M.readyBins c; next = nextOf (2 * B) picked }
 
 -- the engine's cell has, in each place, the row of the machine's set, whatever samples come later
 pub record Same (sh : Shape) (t : ℕ) (e : E.Unit) (m : R.Unit) : Type 0 where
   pub cell : (gx gy : List Sample) → e .cell ≡ mapCell (row (sh .lags) (gx ++ m .xs) (gy ++ m .ys)) (m .cell)
   pub counter : e .counter ≡ stored (sh .start) (m .counter)
+  pub picks : e .picks ≡ storedPicks (sh .bins) (m .cell) (m .picked)
   pub xs : e .xs ≡ window (sh .lags) (m .xs)
   pub ys : e .ys ≡ window (sh .lags) (m .ys)
   pub good : Good sh t m
@@ -100,6 +109,7 @@ module _ (sh : Shape) (t : ℕ) (wide : 2 ≤ sh .lags) (x y : Sample) (e : E.Un
       record {
         cell = M.tickCell t (m .cell);
         counter = m .counter;
+        picked = m .picked;
         frames = m .frames;
         xs = x ∷ m .xs;
         ys = y ∷ m .ys;
@@ -119,6 +129,9 @@ module _ (sh : Shape) (t : ℕ) (wide : 2 ≤ sh .lags) (x y : Sample) (e : E.Un
       (row-same (sh .lags) _ _ _ _ (λ d h. ago-window (sh .lags) (x ∷ m .xs) d h)
       (λ d h. ago-window (sh .lags) (y ∷ m .ys) d h) wide)
 
+  abbrev withReady : (readyBins : ℕ) → E.Picks
+  withReady k = record { readyBins = k; next = nextOf (2 * sh .bins) (m .picked) }
+
   pub tick-same : Same sh (suc t) (E.tickUnit (sh .lags) (storedEntry x) (storedEntry y) e) ticked
   unfolding E.tickUnit
   tick-same =
@@ -131,6 +144,7 @@ module _ (sh : Shape) (t : ℕ) (wide : 2 ≤ sh .lags) (x y : Sample) (e : E.Un
             ap₂ (λ q z. E.tickBy (sh .lags) (E.hasRoom (sh .lags) q) z q) c r
             ∙ sym (tick-carry (sh .lags) (gx ++ x ∷ m .xs) (gy ++ y ∷ m .ys) t (m .cell));
         counter = s .counter;
+        picks = s .picks ∙ ap withReady (sym (tick-ready (m .cell) t));
         xs = new-xs;
         ys = new-ys;
         good =
@@ -139,6 +153,7 @@ module _ (sh : Shape) (t : ℕ) (wide : 2 ≤ sh .lags) (x y : Sample) (e : E.Un
               takenY = ap suc (s .good .takenY);
               sound = tick-sound _ t (m .cell) (s .good .sound);
               counter = s .good .counter;
+              picked = s .good .picked;
               once = λ f.
                   omega (
                     arith,
@@ -159,25 +174,27 @@ module _ (sh : Shape) (t : ℕ) (e : E.Unit) (m : R.Unit) (s : Same sh t e m) wh
   abbrev B : ℕ
   B = sh .bins
 
-  -- the units with other places, and another block counter
-  abbrev pub engineWith : Cell Row → E.Counter → E.Unit
-  engineWith c k = record { cell = c; counter = k; xs = e .xs; ys = e .ys }
+  -- the units with other places, another block counter and another Ready number
+  abbrev pub engineWith : Cell Row → E.Counter → E.Picks → E.Unit
+  engineWith c k p = record { cell = c; counter = k; picks = p; xs = e .xs; ys = e .ys }
 
   abbrev pub machineWith : Cell Ticks → M.Counter → List Emitted → R.Unit
-  machineWith c k fs = record { cell = c; counter = k; frames = fs; xs = m .xs; ys = m .ys }
+  machineWith c k fs = record { cell = c; counter = k; picked = m .picked; frames = fs; xs = m .xs; ys = m .ys }
 
-  change : (ec : Cell Row) (mc : Cell Ticks) (ek : E.Counter) (mk : M.Counter) (fs : List Emitted)
+  change : (ec : Cell Row) (mc : Cell Ticks) (ek : E.Counter) (mk : M.Counter) (ep : E.Picks) (fs : List Emitted)
       → ((gx gy : List Sample) → ec ≡ mapCell (row n (gx ++ m .xs) (gy ++ m .ys)) mc)
       → ek ≡ stored (sh .start) mk
+      → ep ≡ storedPicks B mc (m .picked)
       → Sound B t mc
       → CounterSound (sh .start) (sh .blocks) mk
       → ((f : ℕ → ℕ) → overAll (tally f) (places (machineWith mc mk fs)) ≡ overAll (tally f) (places m))
       → All (Sent B t) fs
-      → Same sh t (engineWith ec ek) (machineWith mc mk fs)
-  change ec mc ek mk fs carried is sound among kept sent =
+      → Same sh t (engineWith ec ek ep) (machineWith mc mk fs)
+  change ec mc ek mk ep fs carried is numbered sound among kept sent =
       record {
         cell = carried;
         counter = is;
+        picks = numbered;
         xs = s .xs;
         ys = s .ys;
         good =
@@ -186,10 +203,15 @@ module _ (sh : Shape) (t : ℕ) (e : E.Unit) (m : R.Unit) (s : Same sh t e m) wh
               takenY = s .good .takenY;
               sound = sound;
               counter = among;
+              picked = s .good .picked;
               once = λ f. kept f ∙ s .good .once f;
               frames = sent;
             };
       }
+
+  -- the Ready number of a call that leaves the bins
+  unready : (c : Cell Ticks) → M.readyBins c ≡ M.readyBins (m .cell) → e .picks ≡ storedPicks B c (m .picked)
+  unready c same = s .picks ∙ ap (λ k. record { readyBins = k; next = nextOf (2 * B) (m .picked) }) (sym same)
 
   -- the block counter of a dump
   pub counter-same : (command : ℕ)
@@ -205,15 +227,16 @@ module _ (sh : Shape) (t : ℕ) (e : E.Unit) (m : R.Unit) (s : Same sh t e m) wh
   pub dump-same : (l : Label) (command : ℕ) → commandOk command ≡ true
       → (eqb (l .command) idle ≡ false → eqb (l .command) discard ≡ false → LabelSound B l)
       → Same sh t
-      (engineWith ((E.dumpCell n l t (e .cell)) .cell) (E.counted (sh .blocks) command (e .counter)))
+      (engineWith ((E.dumpCell n l t (e .cell)) .cell) (E.counted (sh .blocks) command (e .counter)) (e .picks))
       (machineWith ((M.dumpCell l t (m .cell)) .cell) (moved command) (m .frames))
   unfolding mapResult
   dump-same l command ok h =
-      change _ _ _ (moved command) (m .frames)
+      change _ _ _ (moved command) _ (m .frames)
       (λ gx gy.
       ap (λ c. (E.dumpCell n l t c) .cell) (s .cell gx gy)
       ∙ sym (ap (λ r. r .cell) (dump-carry n (gx ++ m .xs) (gy ++ m .ys) l t (m .cell))))
       (counter-same command)
+      (unready _ (dump-ready (m .cell) l t))
       (dump-sound B t (m .cell) (s .good .sound) l h)
       (counted-sound (sh .start) (sh .blocks) (m .counter) (s .good .counter) command ok)
       (λ f.
@@ -233,15 +256,16 @@ module _ (sh : Shape) (t : ℕ) (e : E.Unit) (m : R.Unit) (s : Same sh t e m) wh
 
   -- a speed dump
   pub send-same : (bank bin command : ℕ) → commandOk command ≡ true → bank < 2 → bin < B
-      → Same sh t (engineWith (E.sendOpen n t (e .cell)) (E.counted (sh .blocks) command (e .counter)))
+      → Same sh t (engineWith (E.sendOpen n t (e .cell)) (E.counted (sh .blocks) command (e .counter)) (e .picks))
       (machineWith (M.sendOpen t (m .cell)) (moved command)
       (record { kind = speedFrame; bank = bank; bin = bin; content = m .cell .opened } ∷ m .frames))
   send-same bank bin command ok hk hb =
       let sent : Emitted = record { kind = speedFrame; bank = bank; bin = bin; content = m .cell .opened } in
       let f = s .good .sound .flat in
-      change _ _ _ (moved command) (sent ∷ m .frames)
+      change _ _ _ (moved command) _ (sent ∷ m .frames)
       (λ gx gy. ap (E.sendOpen n t) (s .cell gx gy) ∙ sym (send-carry n (gx ++ m .xs) (gy ++ m .ys) t (m .cell)))
       (counter-same command)
+      (unready _ (send-ready (m .cell) t))
       (send-sound B t (m .cell) (s .good .sound))
       (counted-sound (sh .start) (sh .blocks) (m .counter) (s .good .counter) command ok)
       (λ f.
@@ -255,17 +279,24 @@ module _ (sh : Shape) (t : ℕ) (e : E.Unit) (m : R.Unit) (s : Same sh t e m) wh
         s .good .frames,
       )
 
+  -- the bin that Held's label names
+  held-below : binIndex B (m .cell .held .label .bank) (m .cell .held .label .bin) < length (m .cell .bins)
+  held-below =
+      let l = s .good .sound .flat .label in
+      omega (arith, index-below B _ _ (l .bank) (l .bin), s .good .sound .flat .bins)
+
   pub integrate-same :
-      Same sh t (engineWith ((E.integrateCell n B (e .cell)) .cell) (e .counter))
+      Same sh t
+      (engineWith ((E.integrateCell n B (e .cell)) .cell) (e .counter) (E.raised n B (e .cell) (e .picks)))
       (machineWith ((M.integrateCell B (m .cell)) .cell) (m .counter) (m .frames))
   unfolding mapResult
   integrate-same =
-      let l = s .good .sound .flat .label in
-      change _ _ _ _ (m .frames)
+      change _ _ _ _ _ (m .frames)
       (λ gx gy.
       ap (λ c. (E.integrateCell n B c) .cell) (s .cell gx gy)
       ∙ sym (ap (λ r. r .cell) (integrate-carry n (gx ++ m .xs) (gy ++ m .ys) B (m .cell))))
       (s .counter)
+      (ap₂ (E.raised n B) (s .cell [] []) (s .picks) ∙ integrate-ready (m .cell) n (m .xs) (m .ys) B _ held-below)
       (integrate-sound B t (m .cell) (s .good .sound))
       (s .good .counter)
       (λ f.
@@ -273,8 +304,7 @@ module _ (sh : Shape) (t : ℕ) (e : E.Unit) (m : R.Unit) (s : Same sh t e m) wh
         arith,
         over-places (tally f) (machineWith ((M.integrateCell B (m .cell)) .cell) (m .counter) (m .frames)),
         over-places (tally f) m,
-        integrate-total f (m .cell) (s .good .sound .flat .losses) B
-            (omega (arith, index-below B _ _ (l .bank) (l .bin), s .good .sound .flat .bins)),
+        integrate-total f (m .cell) (s .good .sound .flat .losses) B held-below,
       ))
       (s .good .frames)
 
@@ -284,19 +314,24 @@ module _ (sh : Shape) (t : ℕ) (e : E.Unit) (m : R.Unit) (s : Same sh t e m) wh
       ap (λ c. (E.integrateCell n B c) .answer) (s .cell [] [])
       ∙ sym (ap (λ r. r .answer) (integrate-carry n (m .xs) (m .ys) B (m .cell)))
 
-  pub empty-same : (bank bin : ℕ) → bank < 2 → bin < B
+  pub empty-same : (bank bin : ℕ) → bank < 2 → bin < B → (M.binAt (binIndex B bank bin) (m .cell)) .state ≡ ready
       → let k = binIndex B bank bin in
-      Same sh t (engineWith (E.emptyBin n k (e .cell)) (e .counter))
+      Same sh t (engineWith (E.emptyBin n k (e .cell)) (e .counter) (E.lowered (e .picks)))
       (machineWith (M.emptyBin k (m .cell)) (m .counter)
       (record { kind = accumulated; bank = bank; bin = bin; content = (M.binAt k (m .cell)) .content } ∷ m .frames))
-  empty-same bank bin hk hb =
+  unfolding E.lowered
+  empty-same bank bin hk hb is =
       let k = binIndex B bank bin in
+      let below : k < length (m .cell .bins) =
+      omega (arith, index-below B bank bin hk hb, s .good .sound .flat .bins) in
       let sent : Emitted =
       record { kind = accumulated; bank = bank; bin = bin; content = (M.binAt k (m .cell)) .content } in
       let b = s .good .sound .bins k in
-      change _ _ _ _ (sent ∷ m .frames)
+      change _ _ _ _ _ (sent ∷ m .frames)
       (λ gx gy. ap (E.emptyBin n k) (s .cell gx gy) ∙ sym (empty-carry n (gx ++ m .xs) (gy ++ m .ys) k (m .cell)))
       (s .counter)
+      (ap E.lowered (s .picks)
+      ∙ ap (λ r. record { readyBins = r; next = nextOf (2 * B) (m .picked) }) (sym (empty-ready (m .cell) k below is)))
       (empty-sound B t (m .cell) (s .good .sound) k)
       (s .good .counter)
       (λ f.
@@ -304,7 +339,37 @@ module _ (sh : Shape) (t : ℕ) (e : E.Unit) (m : R.Unit) (s : Same sh t e m) wh
         arith,
         over-places (tally f) (machineWith (M.emptyBin k (m .cell)) (m .counter) (sent ∷ m .frames)),
         over-places (tally f) m,
-        empty-total f (m .cell) (s .good .sound .flat .losses) k
-            (omega (arith, index-below B bank bin hk hb, s .good .sound .flat .bins)),
+        empty-total f (m .cell) (s .good .sound .flat .losses) k below,
       ))
       (record { kind = refl; bank = hk; bin = hb; few = b .few; stamp = b .stamp }, s .good .frames)
+
+  -- the place of picks behind bin k
+  pub pointed-same : (k : ℕ) → k < 2 * B
+      → Same sh t
+      (engineWith (e .cell) (e .counter) (record { readyBins = e .picks .readyBins; next = E.after (2 * B) k }))
+      (record {
+        cell = m .cell;
+        counter = m .counter;
+        picked = was k;
+        frames = m .frames;
+        xs = m .xs;
+        ys = m .ys;
+      })
+  pointed-same k h =
+      record {
+        cell = s .cell;
+        counter = s .counter;
+        picks = ap (λ p. record { readyBins = p .readyBins; next = E.after (2 * B) k }) (s .picks);
+        xs = s .xs;
+        ys = s .ys;
+        good =
+            record {
+              takenX = s .good .takenX;
+              takenY = s .good .takenY;
+              sound = s .good .sound;
+              counter = s .good .counter;
+              picked = h;
+              once = s .good .once;
+              frames = s .good .frames;
+            };
+      }

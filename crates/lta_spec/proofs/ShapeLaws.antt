@@ -31,6 +31,7 @@ all-fails (b ∷ bs) (suc i) e = rw (all-fails bs i e) (by-test b)
     by-test false = refl
 
 pub record Shaped (sh : Shape) : Type 0 where
+  pub some-cells : 1 ≤ sh .cells
   pub cells : sh .cells ≤ 16
   pub some-lags : 2 ≤ sh .lags
   pub lags : sh .lags ≤ 128
@@ -50,6 +51,7 @@ shaped sh ok =
     let at = all-at (shapeTests sh) ok in
     let lag = all-at (leb 2 n ∷ leb n 128 ∷ eqb (n % 2) 0 ∷ []) (at 2) in
     record {
+      some-cells = leb-true _ _ (at 0);
       cells = leb-true _ _ (at 1);
       some-lags = leb-true _ _ (lag 0);
       lags = leb-true _ _ (lag 1);

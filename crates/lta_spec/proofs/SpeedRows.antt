@@ -26,7 +26,7 @@ unfolding
     M.loseOpen M.holdOpen M.dumpBy M.dumpCell M.sendOpen M.countsAs M.returns M.oneOn M.counted M.release
     M.stateAfter M.stampAfter M.integrateBy M.binAt M.integrateAt M.integrateCell M.emptyBin N.upTo N.inPhaseSum
     N.quadratureSum N.validCount N.setFrame R.verdict R.tickUnits R.heldOff R.withDump R.withCell R.emitted R.speedSent
-    R.withFrame R.sends R.dumpsBy R.accepted R.step machineReturns
+    R.withFrame R.sends R.emits R.dumpsBy R.accepted R.step machineReturns
 machine-returned = (refl, refl)
 
 pub speed-rows : SpeedRows

@@ -13,7 +13,7 @@ use Rattle.lta_spec.specs.Shape.{peak}
 use Rattle.lta_spec.specs.Tick.{xDelay, yDelay, bothValid}
 use Rattle.lta_spec.specs.Tick.{Sample, Entry, nibble, fromSample, product, weights, weight, inPhase, quadrature}
 use Rattle.lta_spec.specs.Row.{biased, entryWord, fromWord, entryOk}
-use Rattle.lta_spec.proofs.TestLaws.{and-left, and-right}
+use Rattle.lta_spec.proofs.TestLaws.{bit-small, and-left, and-right}
 
 -- the size of a product of whole numbers is the product of their sizes
 size-neg : (n : ℕ) → natAbs (negℤ (pos n)) ≡ n
@@ -98,10 +98,6 @@ twice-eight a l = omega arith
 -- a sample as it is stored
 abbrev pub storedEntry : Sample → ℕ
 storedEntry s = entryWord (s .byte) (cond (s .valid) 1 0)
-
-pub bit-small : (valid : Bool) → cond valid 1 0 < 2
-bit-small true = omega arith
-bit-small false = omega arith
 
 pub bit-is : (v : ℕ) → v % 2 ≡ cond (eqb (v % 2) 1) 1 0
 bit-is v = by-test (eqb (v % 2) 1) refl

@@ -8,29 +8,45 @@ use mathlib.Core.List.{List, [], _∷_, _++_, map}
 use lib.IntN.{pos}
 use lib.ListN.{replicate}
 use Rattle.lta_spec.specs.Shape.{runLimit}
-use Rattle.lta_spec.specs.Place.{Held, Stamped, Cell}
+use Rattle.lta_spec.specs.Place.{Held, Stamped, Bin, Cell, free, filling, ready}
 use Rattle.lta_spec.specs.Bytes.{bytesOf}
 use Rattle.lta_spec.specs.Frame.{mark, accumulated}
 use Rattle.lta_spec.specs.FrameCalls.{readAnswer, writeAnswer, normalAnswer}
 use Rattle.lta_spec.specs.Call.{Call, commandOk, emittedFields}
-use Rattle.lta_spec.specs.Call.Call.{tick, dump, integrate, emit, reading, forecast, page}
+use Rattle.lta_spec.specs.Call.Call.{tick, dump, integrate, emit, reading, forecast, page, pick}
 use Rattle.lta_spec.specs.Answer.{Answer}
 use Rattle.lta_spec.specs.Answer.Answer.{refused, number, fields}
-use Rattle.lta_spec.specs.Engine.{Row, Counter, stamped, freshUnit}
+use Rattle.lta_spec.specs.Engine.{Row, Counter, Picks, Unit, stamped, freshUnit}
 use Rattle.lta_spec.specs.Memory.{runL}
 use Rattle.lta_spec.specs.Step.{step}
+use Rattle.lta_spec.specs.WorkedRun.{sumsRead}
 use Rattle.lta_spec.specs.Edges.{scriptShape, scriptFrame}
+use Rattle.lta_spec.specs.PickRows.{ticksRow, binWith}
+use Rattle.lta_spec.specs.declared.Shape.{Shape}
 use Rattle.lta_spec.specs.declared.Fields.{Fields}
+
+-- a cell of the script's shape in a fresh run
+abbrev pub freshOne : Unit
+freshOne = freshUnit (scriptShape .lags) (scriptShape .bins)
+
+-- with another flag of Held, another Open, other bins and other losses
+abbrev pub cellWith : (flag : ℕ) → Stamped Row → List (Bin Row) → (losses : List Row) → Cell Row
+cellWith flag opened bins losses =
+    let h = freshOne .cell .held in
+    let held : Held Row = record { occupied = flag; label = h .label; content = h .content } in
+    record { opened = opened; held = held; bins = bins; losses = losses }
+
+-- a run of a shape with these cells
+abbrev pub memUnits : Shape → (t next : ℕ) → List Unit → List ℕ
+memUnits sh t next us = (runL sh) .put (record { t = t; next = next; units = us })
 
 -- a fresh run of the script's shape but for t, Held's flag, the newest entry of X's register and the block counter
 abbrev pub memCounted : Counter → (t flag entry : ℕ) → List ℕ
 memCounted counter t flag entry =
-    let u = freshUnit (scriptShape .lags) (scriptShape .bins) in
-    let c = u .cell in
-    let held : Held Row = record { occupied = flag; label = c .held .label; content = c .held .content } in
-    let cell : Cell Row = record { opened = c .opened; held = held; bins = c .bins; losses = c .losses } in
-    (runL scriptShape) .put
-    (record { t = t; units = record { cell = cell; counter = counter; xs = entry ∷ 0 ∷ []; ys = u .ys } ∷ [] })
+    let c = freshOne .cell in
+    let cell = cellWith flag (c .opened) (c .bins) (c .losses) in
+    memUnits scriptShape t 0
+    (record { cell = cell; counter = counter; picks = freshOne .picks; xs = entry ∷ 0 ∷ []; ys = freshOne .ys } ∷ [])
 
 abbrev pub counterWith : (offset lastCode : ℕ) → Counter
 counterWith offset code = record { offset = offset; lastCode = code }
@@ -38,18 +54,15 @@ counterWith offset code = record { offset = offset; lastCode = code }
 abbrev pub memWith : (t flag entry : ℕ) → List ℕ
 memWith = memCounted (counterWith 0 0)
 
+-- a fresh cell but for its places and its picks
+abbrev pub unitWith : Cell Row → Picks → Unit
+unitWith cell picks =
+    record { cell = cell; counter = freshOne .counter; picks = picks; xs = freshOne .xs; ys = freshOne .ys }
+
 -- a fresh run of the script's shape but for Open and the losses, at t = 7
 abbrev pub memPlaces : Stamped Row → (losses : List Row) → List ℕ
 memPlaces opened losses =
-    let u = freshUnit (scriptShape .lags) (scriptShape .bins) in
-    let c = u .cell in
-    let cell : Cell Row = record { opened = opened; held = c .held; bins = c .bins; losses = losses } in
-    (runL scriptShape) .put
-    (record { t = 7; units = record { cell = cell; counter = u .counter; xs = u .xs; ys = u .ys } ∷ [] })
-
--- a row of so many ticks, without a valid product
-abbrev pub ticksRow : (ticks : ℕ) → Row
-ticksRow ticks = ticks ∷ replicate 6 0
+    memUnits scriptShape 7 0 (unitWith (cellWith 0 opened (freshOne .cell .bins) losses) (freshOne .picks) ∷ [])
 
 -- Open has so many ticks and this stamp
 abbrev pub memOpened : (ticks stamp : ℕ) → List ℕ
@@ -59,6 +72,38 @@ memOpened ticks stamp = memPlaces (stamped (ticksRow ticks) stamp) (replicate 6 
 abbrev pub memLost : List ℕ → List ℕ
 memLost ticks = memPlaces (stamped (ticksRow 0) 0) (map ticksRow ticks)
 
+-- the bins of a cell: the first one as given, the third one Ready with three ticks
+abbrev pub binsWith : Bin Row → List (Bin Row)
+binsWith b = b ∷ binWith filling 2 4 ∷ binWith ready 3 4 ∷ binWith free 0 7 ∷ []
+
+-- a cell with such bins, the first of which is Held's, and this flag of Held, Ready number and place of picks
+abbrev pub unitPicked : (flag : ℕ) → Bin Row → (readyBins place : ℕ) → Unit
+unitPicked flag b readyBins place =
+    let c = freshOne .cell in
+    unitWith (cellWith flag (c .opened) (binsWith b) (c .losses)) (record { readyBins = readyBins; next = place })
+
+-- a run with such a cell and this place of picks, at t = 7
+abbrev pub memPicked : (flag : ℕ) → Bin Row → (readyBins place next : ℕ) → List ℕ
+memPicked flag b readyBins place next = memUnits scriptShape 7 next (unitPicked flag b readyBins place ∷ [])
+
+-- the script's shape with so many cells
+abbrev pub shapeOf : (cells : ℕ) → Shape
+shapeOf cells =
+    let s = scriptShape in
+    record {
+      cells = cells;
+      lags = s .lags;
+      bins = s .bins;
+      blocks = s .blocks;
+      start = s .start;
+      rate = s .rate;
+      second = s .second;
+    }
+
+-- a run of two cells: cell 0 has a Ready bin, and cell 1 is as given
+abbrev pub memPair : Unit → List ℕ
+memPair u = memUnits (shapeOf 2) 7 0 (unitPicked 0 (binWith free 0 0) 1 3 ∷ u ∷ [])
+
 -- a buffer of so many bytes
 abbrev pub bytes : ℕ → List ℕ
 bytes n = replicate n 9
@@ -66,6 +111,10 @@ bytes n = replicate n 9
 -- what each call answers on the same work memory
 abbrev pub returned : (mem : List ℕ) → List Call → List Answer
 returned mem calls = map (λ call. (step scriptShape call mem) .answer) calls
+
+-- what one call answers on each of several
+abbrev pub onEach : {A : Type 0} → (mem : A → List ℕ) → Call → List A → List Answer
+onEach mem call xs = map (λ x. (step scriptShape call (mem x)) .answer) xs
 
 abbrev pub refusals : List ℕ → List Answer
 refusals ks = map refused ks
@@ -171,6 +220,73 @@ pub record Orders : Type 0 where
       ∷ (2147483648 ∷ 0 ∷ 0 ∷ 0 ∷ 0 ∷ 1 ∷ [])
       ∷ [])
       ≡ number 287 ∷ refused 11 ∷ number 287 ∷ refused 11 ∷ refused 11 ∷ []
+  -- request 2026-07, "20 when no cell has a Ready bin, tested after 1, 2 and 11 and before 10": 17 cells, no words, t
+  -- too high; a flag of 2 and no entry of a register, which picks do not test; then buffers around a frame
+  pub picker-host : map (λ sh. (step sh (pick []) []) .answer) (shapeOf 17 ∷ shapeOf 16 ∷ []) ≡ refusals (1 ∷ 2 ∷ [])
+  pub picker : returned (memWith (runLimit + 1) 0 0) (pick [] ∷ pick (bytes 50) ∷ []) ≡ refusals (11 ∷ 11 ∷ [])
+  pub picker-none : returned (memWith 0 2 512) (pick [] ∷ pick (bytes 49) ∷ pick (bytes 50) ∷ [])
+      ≡ refusals (20 ∷ 20 ∷ 20 ∷ [])
+  pub picker-last : returned (memPicked 2 (binWith filling 6 7) 1 3 0)
+      (pick [] ∷ pick (bytes 49) ∷ pick (bytes 50) ∷ pick (bytes 51) ∷ [])
+      ≡ refused 10 ∷ refused 10 ∷ number 50 ∷ number 50 ∷ []
+  -- "here 11 covers every cell's bins": of a bin that is not picked a state of 3, a tick though it is Free, a stamp
+  -- above t, a tick too many
+  pub picker-bins : onEach (λ b. memPicked 0 b 1 3 0) (pick (bytes 50))
+      (binWith filling 16777215 7
+      ∷ binWith 3 6 7
+      ∷ binWith free 0 7
+      ∷ binWith free 1 7
+      ∷ binWith filling 6 8
+      ∷ binWith filling 16777216 7
+      ∷ [])
+      ≡ number 50 ∷ refused 11 ∷ number 50 ∷ refused 11 ∷ refused 11 ∷ refused 11 ∷ []
+  -- "Ready numbers that differ from them": one Ready bin, then two
+  pub picker-numbers : onEach (λ k. memPicked 0 (binWith filling 6 7) k 3 0) (pick (bytes 50))
+      (0 ∷ 1 ∷ 2 ∷ [])
+      ≡ refused 11 ∷ number 50 ∷ refused 11 ∷ []
+  pub picker-two : onEach (λ k. memPicked 0 (binWith ready 6 7) k 3 0) (pick (bytes 50))
+      (1 ∷ 2 ∷ 3 ∷ [])
+      ≡ refused 11 ∷ number 50 ∷ refused 11 ∷ []
+  -- "and places not in the run": place 4 of a cell's bins, cell 1
+  pub picker-places : onEach (λ k. memPicked 0 (binWith free 0 7) 1 k 0) (pick (bytes 50))
+      (0 ∷ 3 ∷ 4 ∷ [])
+      ≡ number 50 ∷ number 50 ∷ refused 11 ∷ []
+  pub picker-cells : onEach (λ c. memPicked 0 (binWith free 0 7) 1 3 c) (pick (bytes 50))
+      (0 ∷ 1 ∷ [])
+      ≡ number 50 ∷ refused 11 ∷ []
+  -- the same in a cell that is not served: a state of 3, a Ready number that differs, a place 4
+  pub picker-every : map (λ u. (step (shapeOf 2) (pick (bytes 50)) (memPair u)) .answer)
+      (unitPicked 2 (binWith filling 6 7) 1 3
+      ∷ unitPicked 2 (binWith 3 6 7) 1 3
+      ∷ unitPicked 2 (binWith filling 6 7) 2 3
+      ∷ unitPicked 2 (binWith filling 6 7) 1 4
+      ∷ [])
+      ≡ number 50 ∷ refused 11 ∷ refused 11 ∷ refused 11 ∷ []
+  -- "integration and emission give it where the cell's Ready number is above 2B, or is 0 though the bin tested is
+  -- Ready, or 2B though it isn't": 2B is 4, and the bin Ready, then Filling. They test no place.
+  pub taker-numbers : onEach (λ k. memPicked 0 (binWith ready 6 7) k 4 1) (emit 0 0 0 (bytes 50))
+      (0 ∷ 1 ∷ 3 ∷ 4 ∷ 5 ∷ [])
+      ≡ refused 11 ∷ number 50 ∷ number 50 ∷ number 50 ∷ refused 11 ∷ []
+  pub taker-filling : onEach (λ k. memPicked 0 (binWith filling 6 7) k 4 1) (emit 0 0 0 [])
+      (0 ∷ 1 ∷ 3 ∷ 4 ∷ 5 ∷ [])
+      ≡ refusals (9 ∷ 9 ∷ 9 ∷ 11 ∷ 11 ∷ [])
+  -- a 000 is held for it: loss 3, loss 4
+  pub integrator-numbers : onEach (λ k. memPicked 1 (binWith ready 6 7) k 4 1) (integrate 0)
+      (0 ∷ 1 ∷ 3 ∷ 4 ∷ 5 ∷ [])
+      ≡ refused 11 ∷ number 3 ∷ number 3 ∷ number 3 ∷ refused 11 ∷ []
+  pub integrator-filling : onEach (λ k. memPicked 1 (binWith filling 6 7) k 4 1) (integrate 0)
+      (0 ∷ 1 ∷ 3 ∷ 4 ∷ 5 ∷ [])
+      ≡ number 4 ∷ number 4 ∷ number 4 ∷ refused 11 ∷ refused 11 ∷ []
+  -- where Held is unoccupied no bin is tested
+  pub integrator-unoccupied : onEach (λ k. memPicked 0 (binWith ready 6 7) k 4 1) (integrate 0)
+      (0 ∷ 4 ∷ 5 ∷ [])
+      ≡ refusals (8 ∷ 8 ∷ 11 ∷ [])
+  -- no other call tests Ready number and places
+  pub picks-others : returned (memPicked 0 (binWith filling 6 7) 5 4 1)
+      (tick (0 ∷ 0 ∷ 0 ∷ []) ∷ dump 0 4 0 0 [] ∷ dump 0 2 0 0 [] ∷ dump 0 3 0 0 (bytes 54) ∷ reading 0 0 1 ∷ forecast 0
+      ∷ page (bytes 287)
+      ∷ [])
+      ≡ number 0 ∷ number 1 ∷ number 0 ∷ number 54 ∷ sumsRead (pos 0) (pos 0) 0 0 0 ∷ number 524288 ∷ number 287 ∷ []
   -- "1 for N, then 13 .., 14 .., 15 .., 16"; "Normalising: 12 last"
   pub sender : readAnswer 3 [] ∷ map (readAnswer 2) ([] ∷ replicate 50 0 ∷ zeroFrame 1 ∷ zeroFrame 0 ∷ [])
       ≡ refusals (1 ∷ 13 ∷ 14 ∷ 15 ∷ 16 ∷ [])

@@ -17,6 +17,7 @@ pub data Call : Type 0 where
   reading : (cell lag loss : ℕ) → Call
   forecast : (cell : ℕ) → Call
   page : (out : List ℕ) → Call
+  pick : (out : List ℕ) → Call
 
 -- the buffer that a call is lent
 abbrev pub lentTo : Call → List ℕ
@@ -27,6 +28,7 @@ lentTo (emit cell bank bin out) = out
 lentTo (reading cell lag loss) = []
 lentTo (forecast cell) = []
 lentTo (page out) = out
+lentTo (pick out) = out
 
 -- what is not refused by 3, "not 2C bytes"; request 2026-06: "Refusal 3 tests for 3C bytes"
 abbrev pub samplesOk : (cells : ℕ) (samples : List ℕ) → Bool

@@ -1,6 +1,6 @@
 -- Document 01, "Whoever writes in work memory": refusal 11, with the parts that each call tests.
-use Prim.Native.Nat.{ℕ, suc, _+_}
-use mathlib.Core.Bool.{Bool, true, false, cond, _&&_, _||_}
+use Prim.Native.Nat.{ℕ, suc, _+_, _*_}
+use mathlib.Core.Bool.{Bool, true, false, cond, not, _&&_, _||_}
 use mathlib.Core.List.{List}
 use lib.Dec.{leb, ltb, eqb}
 use Rattle.lta_spec.specs.Words.{overAll, every}
@@ -98,9 +98,42 @@ integrateSound n bins t c =
     && cond (eqb (c .held .occupied) 1)
     (labelOk bins (c .held .label) && integrateBinSound n t (binAt n (heldBin n bins c) c) c) true
 
+-- request 2026-07, not "where the cell's Ready number is above 2B, or is 0 though the bin tested is Ready, or 2B though
+-- it isn't"
+unfoldable pub numberFits : (bins readyBins : ℕ) (isReady : Bool) → Bool
+numberFits bins readyBins isReady =
+    leb readyBins (2 * bins) && not (eqb readyBins (cond isReady 0 (2 * bins)))
+
+-- with the cell's Ready number; where Held is unoccupied, no bin is tested
+unfoldable pub integrateUnitSound : (n bins t : ℕ) → Unit → Bool
+integrateUnitSound n bins t u =
+    let c = u .cell in
+    integrateSound n bins t c
+    && cond (eqb (c .held .occupied) 1)
+    (numberFits bins (u .picks .readyBins) (eqb ((binAt n (heldBin n bins c) c) .state) ready))
+    (leb (u .picks .readyBins) (2 * bins))
+
 -- "emission, the bin"
 unfoldable pub emitSound : (n t k : ℕ) → Cell Row → Bool
 emitSound n t k c = binOk t (binAt n k c)
+
+-- with the cell's Ready number
+unfoldable pub emitUnitSound : (n bins t k : ℕ) → Unit → Bool
+emitUnitSound n bins t k u =
+    emitSound n t k (u .cell)
+    && numberFits bins (u .picks .readyBins) (eqb ((binAt n k (u .cell)) .state) ready)
+
+-- of a pick: "here 11 covers every cell's bins, Ready numbers that differ from them and places not in the run"
+abbrev pub countReady : List (Bin Row) → ℕ
+countReady bs = overAll (λ b. cond (eqb (b .state) ready) 1 0) bs
+
+unfoldable pub pickSound : (bins t : ℕ) → Unit → Bool
+pickSound bins t u =
+    every (binOk t) (u .cell .bins)
+    && (eqb (u .picks .readyBins) (countReady (u .cell .bins)) && ltb (u .picks .next) (2 * bins))
+
+abbrev pub picksSound : (bins t : ℕ) → List Unit → Bool
+picksSound bins t us = every (pickSound bins t) us
 
 -- "reading, the losses"
 abbrev pub readSound : Cell Row → Bool

@@ -16,10 +16,10 @@ use Rattle.lta_spec.specs.Frame.{bodyOf, fieldsOf}
 use Rattle.lta_spec.specs.FrameCalls.{readAnswer}
 use Rattle.lta_spec.specs.Call.{Call, speed}
 use Rattle.lta_spec.specs.Answer.{Answer, numberIn}
-use Rattle.lta_spec.specs.Call.Call.{tick, dump, integrate, emit, reading, forecast, page}
+use Rattle.lta_spec.specs.Call.Call.{tick, dump, integrate, emit, reading, forecast, page, pick}
 use Rattle.lta_spec.specs.Answer.Answer.{refused, fields}
-use Rattle.lta_spec.specs.Machine.{Ticks, LastCommand, binAt}
-use Rattle.lta_spec.specs.Machine.LastCommand.{none, was}
+use Rattle.lta_spec.specs.Machine.{Ticks, Latest, binAt, readyBins}
+use Rattle.lta_spec.specs.Machine.Latest.{none, was}
 use Rattle.lta_spec.specs.Numbers.{
   Emitted,
   sumOver,
@@ -129,12 +129,18 @@ pub record EqualStamped (n : ℕ) (xs ys : List Sample) (e : Stamped Row) (m : S
   pub stamp : e .stamp ≡ m .stamp
 
 -- the last command that a stored word is
-abbrev pub lastOf : (code : ℕ) → LastCommand
+abbrev pub lastOf : (code : ℕ) → Latest
 lastOf zero = none
 lastOf (suc command) = was command
 
--- all places of one cell, with Held's flag and label and the bins' states, and its block counter
-pub record EqualCell (n start : ℕ) (e : E.Unit) (m : M.Unit) : Type 0 where
+-- the place behind the latest of so many, going round; in a fresh run the first
+abbrev pub placeAfter : (size : ℕ) → Latest → ℕ
+placeAfter size none = 0
+placeAfter size (was k) = suc k % size
+
+-- all places of one cell, with Held's flag and label and the bins' states, its block counter, its number of Ready bins
+-- and its place of picks
+pub record EqualCell (n B start : ℕ) (e : E.Unit) (m : M.Unit) : Type 0 where
   pub opened : EqualStamped n (m .xs) (m .ys) (e .cell .opened) (m .cell .opened)
   pub held : EqualStamped n (m .xs) (m .ys) (e .cell .held .content) (m .cell .held .content)
   pub occupied : e .cell .held .occupied ≡ m .cell .held .occupied
@@ -144,6 +150,9 @@ pub record EqualCell (n start : ℕ) (e : E.Unit) (m : M.Unit) : Type 0 where
   pub losses : (i : ℕ) → Equal n (m .xs) (m .ys) (E.lossAt n i (e .cell .losses)) (getD (m .cell .losses) i [])
   pub block : start + e .counter .offset ≡ m .counter .block
   pub lastCommand : lastOf (e .counter .lastCode) ≡ m .counter .lastCommand
+  -- "a number of Ready bins for each cell, always equal to the bins themselves"
+  pub readyBins : e .picks .readyBins ≡ readyBins (m .cell)
+  pub nextBin : e .picks .next ≡ placeAfter (2 * B) (m .picked)
 
 -- "a place is a cell's Open, Held, one bin, one loss or one emitted frame": the sets of all places of a cell
 abbrev pub places : M.Unit → List Ticks
@@ -183,6 +192,8 @@ frameReturned c (onRun (integrate d)) t = []
 frameReturned c (onRun (reading d lag loss)) t = []
 frameReturned c (onRun (forecast d)) t = []
 frameReturned c (onRun (page out)) t = []
+-- request 2026-07, "picked frames count as emitted": the frame names its cell
+frameReturned c (onRun (pick out)) t = frameIf (eqb ((fieldsOf (bodyOf (t .out))) .cell) c) (t .answer) (t .out)
 frameReturned c (onOther shape call given) t = []
 
 abbrev pub framesReturned : (c : ℕ) → List Listed → List Returned → List (List ℕ)
@@ -256,9 +267,11 @@ pub record Demand3 (sh : Shape) (cs : List Listed) : Type 0 where
   -- work memory keeps its length, and t is the machine's
   pub words : length (memAfter sh cs) ≡ memoryWords sh
   pub time : ((runL sh) .get (memAfter sh cs)) .t ≡ (machineAfter sh cs) .t
+  -- the run's place of picks is behind the cell that the machine served last
+  pub nextCell : ((runL sh) .get (memAfter sh cs)) .next ≡ placeAfter (sh .cells) ((machineAfter sh cs) .served)
   -- every place of every cell: the numbers in work memory are those of the machine's set; and its block counter
   pub cells : (c : ℕ) → c < sh .cells
-      → EqualCell (sh .lags) (sh .start) (S.unitAt sh c ((runL sh) .get (memAfter sh cs)))
+      → EqualCell (sh .lags) (sh .bins) (sh .start) (S.unitAt sh c ((runL sh) .get (memAfter sh cs)))
       (M.unitAt sh c (machineAfter sh cs))
   -- every emitted frame: its bytes as its call left them are those of its set's numbers
   pub frames : (c : ℕ) → c < sh .cells

@@ -20,6 +20,7 @@ use Rattle.lta_spec.specs.FrameCalls.{quotient, normalAnswer}
 use Rattle.lta_spec.specs.Answer.Answer.{refused, number, normal}
 use Rattle.lta_spec.specs.Machine as M
 use Rattle.lta_spec.specs.Machine.{Ticks}
+use Rattle.lta_spec.specs.Machine.Latest.{none}
 use Rattle.lta_spec.specs.MachineRun as R
 use Rattle.lta_spec.specs.Engine as E
 use Rattle.lta_spec.specs.Engine.{Row}
@@ -94,7 +95,7 @@ Adds x y i q = Meet (validByte x) (validByte y) i q
 
 -- a run of the plain machine at tick number t; its cells do not matter to the tests of a tick
 abbrev pub beforeTick : (t : ℕ) → R.Run
-beforeTick t = record { t = t; units = [] }
+beforeTick t = record { t = t; served = none; units = [] }
 
 -- the bytes of a tick of two cells, with these validity bytes
 abbrev pub sixBytes : (v w : ℕ) → List ℕ

@@ -1,8 +1,8 @@
 -- The engine's definitions of one cell: the rules of the plain machine again, on rows of words. A text of its own, so
 -- that demand 3 holds one against the other; refusal 11 is in Damage. n is the lags of a cell, bins the data bins of
 -- a bank.
-use Prim.Native.Nat.{ℕ, suc, _+_, _*_, _-_}
-use mathlib.Core.Bool.{Bool, true, false, cond, _&&_, _||_}
+use Prim.Native.Nat.{ℕ, zero, suc, _+_, _*_, _-_}
+use mathlib.Core.Bool.{Bool, true, false, cond, not, _&&_, _||_}
 use mathlib.Core.List.{List, _∷_, map}
 use lib.Dec.{leb, ltb, eqb}
 use lib.ListN.{getD, set, take, replicate}
@@ -34,16 +34,27 @@ freeBin n = record { state = free; content = stamped (emptyRow n) 0 }
 unfoldable pub binAt : (n k : ℕ) → Cell Row → Bin Row
 binAt n k c = getD (c .bins) k (freeBin n)
 
+-- the place behind place k of so many, and behind the last one the first
+abbrev pub after : (size k : ℕ) → ℕ
+after size k = cond (ltb (suc k) size) (suc k) 0
+
 -- The recirculation block counter of a cell, so that cleared words are a fresh run's: the current block as its offset
 -- from S, and the last command plus 1, 0 for none
 pub record Counter : Type 0 where
   pub offset : ℕ
   pub lastCode : ℕ
 
--- One cell of a run: its places, its block counter, and its X and Y shift registers, newest entry first
+-- The picks of a cell: how many of its bins are Ready, and the place in its list of bins at which the next pick
+-- starts, behind the bin last picked, so that cleared words are a fresh run's
+pub record Picks : Type 0 where
+  pub readyBins : ℕ
+  pub next : ℕ
+
+-- One cell of a run: its places, its block counter, its picks, and its X and Y shift registers, newest entry first
 pub record Unit : Type 0 where
   pub cell : Cell Row
   pub counter : Counter
+  pub picks : Picks
   pub xs : List ℕ
   pub ys : List ℕ
 
@@ -57,8 +68,7 @@ resets command code = eqb code 0 || (eqb command discard || (eqb command last &&
 
 -- Else it is the next of as many offsets as there are blocks, behind the last one 0.
 unfoldable pub offsetAfter : (blocks command : ℕ) → Counter → ℕ
-offsetAfter blocks command k =
-    cond (resets command (k .lastCode)) 0 (cond (ltb (suc (k .offset)) blocks) (suc (k .offset)) 0)
+offsetAfter blocks command k = cond (resets command (k .lastCode)) 0 (after blocks (k .offset))
 
 -- the command that is kept as the last one: 001 for 011
 unfoldable pub keptAs : (command : ℕ) → ℕ
@@ -76,6 +86,23 @@ dumpLabel blocks command bank phase offset =
 -- The ticks that Open's row is short of its limit.
 unfoldable pub forecastOf : Cell Row → ℕ
 forecastOf c = openLimit - ticksOf (c .opened .members)
+
+-- A search over so many places more, one behind the other from place k on: where it ends, at the first place for which
+-- f holds.
+unfoldable pub seek : (f : ℕ → Bool) (size more k : ℕ) → ℕ
+seek f size zero k = k
+seek f size (suc more) k = cond (f k) k (seek f size more (after size k))
+
+-- The bank and the data bin of a bin, by its place in the cell's list.
+abbrev pub bankOf : (bins k : ℕ) → ℕ
+bankOf bins k = cond (ltb k bins) 0 1
+
+abbrev pub dataBinOf : (bins k : ℕ) → ℕ
+dataBinOf bins k = cond (ltb k bins) k (k - bins)
+
+-- An emission leaves one Ready bin less.
+unfoldable pub lowered : Picks → Picks
+lowered p = record { readyBins = p .readyBins - 1; next = p .next }
 
 module _ (n : ℕ) where
   -- Tick. A tick's row is added to Open, or to loss 6 where Open is full.
@@ -105,6 +132,7 @@ module _ (n : ℕ) where
       record {
         cell = tickBy (hasRoom (u .cell)) (tickRow n (map fromWord xs) (map fromWord ys)) (u .cell);
         counter = u .counter;
+        picks = u .picks;
         xs = xs;
         ys = ys;
       }
@@ -209,6 +237,17 @@ module _ (n : ℕ) where
   unfoldable pub integrateCell : (bins : ℕ) → Cell Row → Result Row
   integrateCell bins c = integrateAt (heldBin bins c) (binAt n (heldBin bins c) c) c
 
+  -- It makes its bin Ready by 010, where the bin is not Ready yet: one Ready bin more.
+  abbrev pub isRaising : Bin Row → Cell Row → Bool
+  isRaising b c = eqb (c .held .label .command) last && not (eqb (b .state) ready)
+
+  unfoldable pub raised : (bins : ℕ) → Cell Row → Picks → Picks
+  raised bins c p =
+      record {
+        readyBins = p .readyBins + cond (isRaising (binAt n (heldBin bins c) c) c) 1 0;
+        next = p .next;
+      }
+
   -- Emit. The bin is Free and its row cleared; its stamp stays.
   unfoldable pub emptyBin : (k : ℕ) → Cell Row → Cell Row
   emptyBin k c =
@@ -219,6 +258,11 @@ module _ (n : ℕ) where
             set (c .bins) k (record { state = free; content = stamped (emptyRow n) ((binAt n k c) .content .stamp) });
         losses = c .losses;
       }
+
+  -- Pick. The Ready bin at which a search from the cell's place of picks ends.
+  unfoldable pub pickedBin : (bins : ℕ) → Unit → ℕ
+  pickedBin bins u =
+      seek (λ k. eqb ((binAt n k (u .cell)) .state) ready) (2 * bins) (2 * bins) (u .picks .next)
 
   -- Setup. All rows clear, Held unoccupied, bins Free, registers full of invalid entries.
   abbrev pub freshUnit : (bins : ℕ) → Unit
@@ -233,6 +277,7 @@ module _ (n : ℕ) where
               losses = replicate lossCount (emptyRow n);
             };
         counter = record { offset = 0; lastCode = 0 };
+        picks = record { readyBins = 0; next = 0 };
         xs = zeros (depth n);
         ys = zeros (depth n);
       }

@@ -1,16 +1,16 @@
 -- Request 2026-02, what a forecast means: one statement for every list of calls in front of it and every list behind
 -- it. proofs/Forecasts.antt proves it.
-use Prim.Native.Nat.{ℕ, zero, suc, _+_, _-_, _<_}
+use Prim.Native.Nat.{ℕ, _+_, _-_, _<_}
 use mathlib.Core.Path.{_≡_}
 use mathlib.Core.Bool.{true, cond, not, _&&_}
 use mathlib.Core.List.{List, [], _∷_, _++_, map}
 use lib.Dec.{ltb, eqb}
 use lib.ListN.{length, getD, take, drop}
-use Rattle.lta_spec.specs.Words.{overAll}
+use Rattle.lta_spec.specs.Words.{overAll, numbersFrom}
 use Rattle.lta_spec.specs.Shape.{shapeOk, runLimit}
 use Rattle.lta_spec.specs.Place.{holdoff}
 use Rattle.lta_spec.specs.Call.{samplesOk, validityOk, idle}
-use Rattle.lta_spec.specs.Call.Call.{tick, dump, integrate, emit, reading, forecast, page}
+use Rattle.lta_spec.specs.Call.Call.{tick, dump, integrate, emit, reading, forecast, page, pick}
 use Rattle.lta_spec.specs.Answer.{numberIn}
 use Rattle.lta_spec.specs.Answer.Answer.{number}
 use Rattle.lta_spec.specs.Machine.{Ticks}
@@ -36,6 +36,7 @@ ofTick none f (onRun (emit d bank bin out)) = none
 ofTick none f (onRun (reading d lag loss)) = none
 ofTick none f (onRun (forecast d)) = none
 ofTick none f (onRun (page out)) = none
+ofTick none f (onRun (pick out)) = none
 ofTick none f (onOther shape call given) = none
 
 -- an accepted tick: the number of cells that it says are held off
@@ -56,12 +57,8 @@ dumpTold c (onRun (emit d bank bin out)) t = []
 dumpTold c (onRun (reading d lag loss)) t = []
 dumpTold c (onRun (forecast d)) t = []
 dumpTold c (onRun (page out)) t = []
+dumpTold c (onRun (pick out)) t = []
 dumpTold c (onOther shape call given) t = []
-
--- the ticks t, t + 1, .., so many
-abbrev pub ticksFrom : (t many : ℕ) → Ticks
-ticksFrom t zero = []
-ticksFrom t (suc many) = t ∷ ticksFrom (suc t) many
 
 -- the sets of a cell's Open and of its loss 6
 abbrev pub openSet : M.Unit → Ticks
@@ -87,7 +84,7 @@ module _ (sh : Shape) (before behind : List Listed) (c n : ℕ) where
   tickAnswers = inTurn tickTold behind (engineReturns sh behind (memAfter sh before))
 
   abbrev pub ticksTaken : Ticks
-  ticksTaken = ticksFrom (there .t) (length tickAnswers)
+  ticksTaken = numbersFrom (there .t) (length tickAnswers)
 
   -- what a forecast of n for cell c means
   pub record Foretold : Type 0 where

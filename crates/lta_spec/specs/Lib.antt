@@ -26,8 +26,10 @@ pub mod RoundTrip
 pub mod Demand
 pub mod Forecasts
 pub mod LossPages
+pub mod Fairness
 pub mod BlockRows
 pub mod WorkedRun
 pub mod Edges
 pub mod SpeedRows
+pub mod PickRows
 pub mod AnswerOrder

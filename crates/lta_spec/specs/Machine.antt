@@ -4,6 +4,7 @@ use mathlib.Core.Bool.{Bool, true, false, cond, _&&_, _||_}
 use mathlib.Core.List.{List, [], _∷_, _++_}
 use lib.Dec.{ltb, eqb}
 use lib.ListN.{length, getD, set, replicate}
+use Rattle.lta_spec.specs.Words.{overAll, numbersFrom}
 use Rattle.lta_spec.specs.Shape.{openLimit, binLimit}
 use Rattle.lta_spec.specs.Place.{Label, Stamped, Bin, Cell, Result, free, filling, ready}
 use Rattle.lta_spec.specs.Place.{ordered, overrun, full, replaced, tooWide, holdoff, lossCount}
@@ -74,19 +75,20 @@ dumpCell l t c = dumpBy (eqb (l .command) idle) (eqb (l .command) discard) (eqb 
 unfoldable pub sendOpen : (t : ℕ) → Cell Ticks → Cell Ticks
 sendOpen t c = record { opened = stamped [] t; held = c .held; bins = c .bins; losses = c .losses }
 
+-- the latest of commands, or of places, by its number; none in a fresh run
+pub data Latest : Type 0 where
+  none : Latest
+  was : (number : ℕ) → Latest
+
 -- Request 2026-01, the recirculation block counter: "Each cell keeps a current block." The last command is that of the
 -- cell's last accepted dump but 111, whatever became of Open.
-pub data LastCommand : Type 0 where
-  none : LastCommand
-  was : (command : ℕ) → LastCommand
-
 pub record Counter : Type 0 where
   pub block : ℕ
-  pub lastCommand : LastCommand
+  pub lastCommand : Latest
 
 -- "It returns to S on 100, and on a 010 whose cell's last command before it was 000 or 001"; "A cell's first dump but
 -- 111 in a fresh run uses S"
-unfoldable pub returns : (command : ℕ) → LastCommand → Bool
+unfoldable pub returns : (command : ℕ) → Latest → Bool
 returns command none = true
 returns command (was before) = eqb command discard || (eqb command last && (eqb before save || eqb before add))
 
@@ -198,6 +200,28 @@ emptyBin k c =
       bins = set (c .bins) k (record { state = free; content = stamped [] ((binAt k c) .content .stamp) });
       losses = c .losses;
     }
+
+-- **Pick.** Request 2026-07: how many of a cell's bins are Ready
+abbrev pub isReady : Bin Ticks → Bool
+isReady b = eqb (b .state) ready
+
+unfoldable pub readyBins : Cell Ticks → ℕ
+readyBins c = overAll (λ b. cond (isReady b) 1 0) (c .bins)
+
+-- The numbers below n, "starting after" the latest and "going round": the latest comes last, and is not left out.
+unfoldable pub roundFrom : (n : ℕ) → Latest → List ℕ
+roundFrom n none = numbersFrom 0 n
+roundFrom n (was k) = numbersFrom (suc k) (n - suc k) ++ numbersFrom 0 (suc k)
+
+-- the first of a list for which f holds
+unfoldable pub firstWith : (f : ℕ → Bool) → List ℕ → ℕ
+firstWith f [] = 0
+firstWith f (k ∷ ks) = cond (f k) k (firstWith f ks)
+
+-- The bin that a pick takes of a cell, by its place in the cell's list: "starting after the bin last picked in that
+-- cell (at first from bank 0, bin 0), it goes round bank 0's bins and then bank 1's."
+unfoldable pub pickedBin : (bins : ℕ) (picked : Latest) → Cell Ticks → ℕ
+pickedBin bins picked c = firstWith (λ k. isReady (binAt k c)) (roundFrom (2 * bins) picked)
 
 -- "All start empty, Held unoccupied, each bin Free."
 abbrev pub freshCell : (bins : ℕ) → Cell Ticks

@@ -30,6 +30,7 @@ refusalNumber no.BadField = 16
 refusalNumber no.BadRecord = 17
 refusalNumber no.WrongBias = 18
 refusalNumber no.BadValidity = 19
+refusalNumber no.NothingReady = 20
 
 -- the number of a loss
 abbrev pub lossNumber : Loss → ℕ

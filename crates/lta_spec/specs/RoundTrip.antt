@@ -16,9 +16,9 @@ use Rattle.lta_spec.specs.Frame.{accumulated, speedFrame, frameLength, f
 use Rattle.lta_spec.specs.Frame.{headerWith, fieldsOf, fieldsOk, within}
 use Rattle.lta_spec.specs.FrameCalls.{readVerdict, readAnswer, lagPart, writeVerdict, writeLeaves}
 use Rattle.lta_spec.specs.Call.{speed, binIndex, emittedFields}
-use Rattle.lta_spec.specs.Call.Call.{dump, emit}
+use Rattle.lta_spec.specs.Call.Call.{dump, emit, pick}
 use Rattle.lta_spec.specs.Row.{ticksOf, edgeOf, centreOf, rowLags}
-use Rattle.lta_spec.specs.Engine.{Row, binAt, counted, dumpLabel}
+use Rattle.lta_spec.specs.Engine.{Row, binAt, counted, dumpLabel, bankOf, dataBinOf, pickedBin}
 use Rattle.lta_spec.specs.Memory.{runL}
 use Rattle.lta_spec.specs.Step as S
 use Rattle.lta_spec.specs.declared.Fields.{Fields}
@@ -42,6 +42,23 @@ storedBin sh c bank bin mem =
 abbrev pub emittedTo : Shape → (c bank bin : ℕ) (mem out : List ℕ) → List ℕ
 emittedTo sh c bank bin mem out =
     take (frameLength accumulated (sh .lags)) ((S.step sh (emit c bank bin out) mem) .out)
+
+-- the bin that a pick takes, by its cell, bank and data bin
+pub record Named : Type 0 where
+  pub cell : ℕ
+  pub bank : ℕ
+  pub bin : ℕ
+
+abbrev pub pickedPlace : Shape → (mem : List ℕ) → Named
+pickedPlace sh mem =
+    let r = (runL sh) .get mem in
+    let c = S.pickedCell sh r in
+    let k = pickedBin (sh .lags) (sh .bins) (S.unitAt sh c r) in
+    record { cell = c; bank = bankOf (sh .bins) k; bin = dataBinOf (sh .bins) k }
+
+-- the bytes that a pick leaves at the start of its buffer
+abbrev pub pickedTo : Shape → (mem out : List ℕ) → List ℕ
+pickedTo sh mem out = take (frameLength accumulated (sh .lags)) ((S.step sh (pick out) mem) .out)
 
 -- the row and stamp of Open of cell c, and the data bin of the label that a speed dump of it makes
 abbrev pub storedOpen : Shape → (c : ℕ) (mem : List ℕ) → Stamped Row
@@ -93,6 +110,11 @@ pub record RoundTrip : Type 0 where
   pub emitted-back : (sh : Shape) (c bank bin : ℕ) (mem out : List ℕ)
       → S.verdict sh mem (emit c bank bin out) ≡ Accepted
       → RowBack sh accumulated c bank bin (storedBin sh c bank bin mem) (emittedTo sh c bank bin mem out)
+  -- a pick that is accepted: what is read back is what stood in the bin that it took, under that bin's name
+  pub picked-back : (sh : Shape) (mem out : List ℕ) → S.verdict sh mem (pick out) ≡ Accepted
+      → let p = pickedPlace sh mem in
+      RowBack sh accumulated (p .cell) (p .bank) (p .bin) (storedBin sh (p .cell) (p .bank) (p .bin) mem)
+      (pickedTo sh mem out)
   -- a speed dump that is accepted: what is read back is what stood in Open, under the dump's label
   pub speed-back : (sh : Shape) (c bank phase : ℕ) (mem out : List ℕ)
       → S.verdict sh mem (dump c speed bank phase out) ≡ Accepted

@@ -19,14 +19,17 @@ depth n = n / 2 + 1
 abbrev pub binWords : (n : ℕ) → ℕ
 binWords n = 2 + rowWords n
 
--- a cell: flag, label, two stamps and the block counter; Open, Held and six losses; two shift registers; the bins of
--- both banks
+-- a cell: flag, label, two stamps, the block counter, the Ready number and the place of picks; Open, Held and six
+-- losses; two shift registers; the bins of both banks
 abbrev pub cellWords : (n bins : ℕ) → ℕ
-cellWords n bins = 8 + 8 * rowWords n + 2 * depth n + 2 * bins * binWords n
+cellWords n bins = 10 + 8 * rowWords n + 2 * depth n + 2 * bins * binWords n
 
--- t, and the cells
+-- t, ahead of the cells, and the run's place of picks, behind them
+abbrev pub runWords : ℕ
+runWords = 2
+
 unfoldable pub memoryWords : Shape → ℕ
-memoryWords sh = 1 + sh .cells * cellWords (sh .lags) (sh .bins)
+memoryWords sh = runWords + sh .cells * cellWords (sh .lags) (sh .bins)
 
 -- "Setup and every call on a run test 1, then 2, first." words is the length of the work memory that the call is
 -- given.

@@ -1,6 +1,6 @@
 -- Lists of words: a part, and a list with a part replaced. Lent slices are lists, so contracts cite these.
 use Prim.Native.Nat.{ℕ, zero, suc, _+_}
-use mathlib.Core.Bool.{Bool, true, _&&_}
+use mathlib.Core.Bool.{Bool, true, false, _&&_, _||_}
 use mathlib.Core.List.{List, [], _∷_, _++_}
 use lib.ListN.{take, drop, replicate}
 
@@ -34,6 +34,11 @@ abbrev pub overAll : {A : Type 0} → (A → ℕ) → List A → ℕ
 overAll f [] = 0
 overAll f (x ∷ xs) = f x + overAll f xs
 
+-- the numbers k, k + 1, .., so many
+abbrev pub numbersFrom : (k many : ℕ) → List ℕ
+numbersFrom k zero = []
+numbersFrom k (suc many) = k ∷ numbersFrom (suc k) many
+
 -- every test of a list holds
 abbrev pub all : List Bool → Bool
 all [] = true
@@ -43,3 +48,8 @@ all (b ∷ bs) = b && all bs
 abbrev pub every : {A : Type 0} → (A → Bool) → List A → Bool
 every f [] = true
 every f (x ∷ xs) = f x && every f xs
+
+-- a test holds of some element
+abbrev pub some : {A : Type 0} → (A → Bool) → List A → Bool
+some f [] = false
+some f (x ∷ xs) = f x || some f xs

@@ -21,16 +21,20 @@ use Rattle.lta_spec.specs.declared.Shape.{Shape}
 abbrev pub workedShape : Shape
 workedShape = record { cells = 2; lags = 4; bins = 6; blocks = 3; start = 20; rate = 3; second = 1000 }
 
--- a call of the run, its answer, and the lent buffer as it leaves it
-pub record CallLine : Type 0 where
+-- a call of a run, and what is told of it
+pub record LineOf (A : Type 0) : Type 0 where
   pub call : Call
-  pub returned : Returned
+  pub returned : A
 
-abbrev pub callsOf : List CallLine → List Listed
+abbrev pub callsOf : {A : Type 0} → List (LineOf A) → List Listed
 callsOf ls = map (λ l. onRun (l .call)) ls
 
-abbrev pub returnedBy : List CallLine → List Returned
+abbrev pub returnedBy : {A : Type 0} → List (LineOf A) → List A
 returnedBy ls = map (λ l. l .returned) ls
+
+-- here its answer, and the lent buffer as it leaves it
+abbrev pub CallLine : Type 0
+CallLine = LineOf Returned
 
 abbrev pub answerOnly : Answer → Returned
 answerOnly a = record { answer = a; out = [] }

@@ -18,7 +18,7 @@ pub struct Shape {
     pub second: u64,
 }
 
-// Who may be told no: a name for each number of documents 01 and 02, in the order 1 to 19.
+// Who may be told no: a name for each number of documents 01 and 02, in the order 1 to 20.
 pub enum Refusal {
     BadShape,
     WrongMemory,
@@ -39,6 +39,7 @@ pub enum Refusal {
     BadRecord,
     WrongBias,
     BadValidity,
+    NothingReady,
 }
 
 // What the ordered tests of a call say.

@@ -34,22 +34,23 @@ pub fn shape_ok(s: Shape) -> bool
     cells & (lags & (bins & (blocks & times)))
 }
 
-// The words of one cell: flag, label, stamps and block counter; Open, Held and the losses; two shift registers; bins.
+// The words of one cell: flag, label, stamps, block counter and picks; Open, Held and the losses; two shift registers;
+// bins.
 pub fn cell_words(n: usize, bins: usize) -> usize
     requires { ⌜ (n ≤ 128) × (bins ≤ 1000) ⌝ }
     ensures { λ r. ⌜ (r ≡ cellWords n bins) × (r ≤ 600000) ⌝ }
 {
     let row = 3 + 2 * n;
-    8 + 8 * row + 2 * (n / 2 + 1) + 2 * bins * (2 + row)
+    10 + 8 * row + 2 * (n / 2 + 1) + 2 * bins * (2 + row)
 }
 
 // The words of work memory that a shape needs.
 pub fn memory_words(s: Shape) -> usize
     requires { ⌜ shapeOk s ≡ true ⌝ }
-    ensures { λ r. ⌜ (r ≡ memoryWords s) × (r ≤ 9600001) ⌝ }
+    ensures { λ r. ⌜ (r ≡ memoryWords s) × (r ≤ 9600002) ⌝ }
 {
     let cells = s.cells as usize;
-    1 + cells * cell_words(s.lags as usize, s.bins as usize)
+    2 + cells * cell_words(s.lags as usize, s.bins as usize)
 }
 
 // 1, then 2, or accepted.

@@ -30,10 +30,6 @@ pub flag-is : (t : Bool) → boolByte t ≡ cond t 1 0
 flag-is true = refl
 flag-is false = refl
 
-pub flag-small : (t : Bool) → cond t 1 0 ≤ 1
-flag-small true = omega arith
-flag-small false = omega arith
-
 -- a difference that wraps
 pub sub-is : (r a b : ℕ) → r < 65536 → a < 65536 → b < 65536 → (r + b) % 2 ^ 16 ≡ a → r ≡ (a + 65536 - b) % 65536
 sub-is r a b hr ha hb e = omega arith

@@ -84,7 +84,7 @@ fn due(r: u64) -> u64 {
 
 // Row r of 30.
 pub fn row(t: Tally, r: u64) -> Tally {
-    let mut old = [0u64; 431];
+    let mut old = [0u64; 442];
     fill(&mut old, r);
     let mut mem = old;
     let so = agrees(shape(), &mut mem, &old, call(r), due(r));

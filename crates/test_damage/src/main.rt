@@ -8,7 +8,7 @@ use test_lib_tools::report::line;
 use test_lib_tools::report::verdict;
 
 // The group of rows behind those of the calls: losses at the limits of a page.
-const LOSSES: u64 = 10;
+const LOSSES: u64 = 11;
 
 fn size(g: u64, n: u64) -> u64 {
     if g == LOSSES { 30 } else { sweep::size(g, n) }
@@ -37,7 +37,7 @@ fn rows(g: u64, n: u64) -> Tally {
 // The line of group g, whose name is here in eight bytes.
 fn line_of(failed: u64, n: u64, g: u64) -> u64 {
     let names =
-        b"tick    keep    discard idle    integr. emit    reading forecastpage    speed   losses  ";
+        b"tick    keep    discard idle    integr. emit    reading forecastpage    speed   pick    losses  ";
     line(failed, n, names, g, rows(g, n))
 }
 
@@ -51,7 +51,7 @@ fn lines_at(failed: u64, n: u64) -> u64 {
     let emit = line_of(integrate, n, 5);
     let reading = line_of(emit, n, 6);
     let page = line_of(line_of(reading, n, 7), n, 8);
-    line_of(page, n, 9)
+    line_of(line_of(page, n, 9), n, 10)
 }
 
 fn main() {

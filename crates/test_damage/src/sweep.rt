@@ -4,6 +4,7 @@
 use test_lib_memory::base::NOW;
 use test_lib_memory::base::built;
 use test_lib_memory::base::shape;
+use test_lib_memory::base::unready;
 use test_lib_memory::base::variant;
 use test_lib_memory::base::word;
 use test_lib_memory::map::greatest;
@@ -14,6 +15,7 @@ use test_lib_rules::call::EMIT;
 use test_lib_rules::call::FORECAST;
 use test_lib_rules::call::INTEGRATE;
 use test_lib_rules::call::PAGE;
+use test_lib_rules::call::PICK;
 use test_lib_rules::call::READING;
 use test_lib_rules::call::SPEED_DUMP;
 use test_lib_rules::call::TICK;
@@ -60,7 +62,8 @@ fn value(j: u64, u: u64, ticks: u64) -> u64 {
     }
 }
 
-// The calls: a tick; a dump that keeps, 100 and 111; an integration, an emission, a reading, a forecast, a page; 011.
+// The calls: a tick; a dump that keeps, 100 and 111; an integration, an emission, a reading, a forecast, a page; 011; a
+// pick.
 fn kind(g: u64) -> u64 {
     match g {
         0 => TICK,
@@ -69,7 +72,8 @@ fn kind(g: u64) -> u64 {
         5 => EMIT,
         6 => READING,
         7 => FORECAST,
-        _ => PAGE,
+        8 => PAGE,
+        _ => PICK,
     }
 }
 
@@ -118,13 +122,20 @@ fn call(n: u64, g: u64, i: u64) -> Call {
 }
 
 // How many variants matter to call g, and which they are.
-const VARIANTS: [u64; 10] = [2, 12, 4, 4, 18, 3, 1, 2, 1, 4];
+const VARIANTS: [u64; 11] = [2, 12, 4, 4, 18, 3, 1, 2, 1, 4, 6];
+
+// Of a pick: the bin of Held's label in each state, the first bin Ready or not; in two of them no bin is.
+fn round_variant(i: u64) -> u64 {
+    let v = variant(0, 0, i % 3, 0);
+    if i < 3 { v } else { unready(v) }
+}
 
 fn variant_of(g: u64, i: u64) -> u64 {
     match g {
         1 | 2 | 3 | 9 => variant(i % 2, 0, 0, i / 2),
         4 => i,
         5 => variant(0, 0, i, 0),
+        10 => round_variant(i),
         _ => variant(0, 0, 0, i),
     }
 }

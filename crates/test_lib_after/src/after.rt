@@ -11,12 +11,15 @@ use test_lib_memory::map::FLAG;
 use test_lib_memory::map::HELD;
 use test_lib_memory::map::HELD_STAMP;
 use test_lib_memory::map::LAST_COMMAND;
+use test_lib_memory::map::NEXT_BIN;
 use test_lib_memory::map::OPEN;
 use test_lib_memory::map::OPEN_STAMP;
+use test_lib_memory::map::READY;
 use test_lib_memory::map::bin;
 use test_lib_memory::map::cell_of;
 use test_lib_memory::map::depth;
 use test_lib_memory::map::loss;
+use test_lib_memory::map::next_cell;
 use test_lib_memory::map::number;
 use test_lib_memory::map::register;
 use test_lib_memory::map::row;
@@ -26,6 +29,7 @@ use test_lib_rules::call::Call;
 use test_lib_rules::call::DUMP;
 use test_lib_rules::call::EMIT;
 use test_lib_rules::call::INTEGRATE;
+use test_lib_rules::call::PICK;
 use test_lib_rules::call::SPEED_DUMP;
 use test_lib_rules::call::TICK;
 use test_lib_rules::call::cell_words;
@@ -38,6 +42,8 @@ use test_lib_rules::history::VALID;
 use test_lib_rules::history::entry;
 use test_lib_rules::history::pair;
 use test_lib_rules::history::sampled;
+use test_lib_rules::places::behind;
+use test_lib_rules::places::places;
 use test_lib_tools::bytes::PEAK;
 use test_lib_tools::words::get;
 use test_lib_tools::words::less;
@@ -148,10 +154,22 @@ fn integrate_row(cell: &[u64], n: u64, at: u64, answer: u64, j: u64) -> u64 {
     }
 }
 
+// The number of Ready bins: one more where 010 makes one so that was not.
+fn ready_after(cell: &[u64], at: u64) -> u64 {
+    let made = (get(cell, COMMAND) == 2) & (get(cell, at) != 2);
+    wrapping_add_u64(get(cell, READY), if made { 1 } else { 0 })
+}
+
 fn integrate_word(cell: &[u64], n: u64, at: u64, answer: u64, j: u64) -> u64 {
-    if j == FLAG {
-        return 0;
+    match j {
+        FLAG => 0,
+        READY => ready_after(cell, at),
+        _ => integrate_bin(cell, n, at, answer, j),
     }
+}
+
+// The bin's state and stamp, or a word of a row.
+fn integrate_bin(cell: &[u64], n: u64, at: u64, answer: u64, j: u64) -> u64 {
     if j == at {
         return state_after(get(cell, COMMAND), answer);
     }
@@ -162,12 +180,24 @@ fn integrate_word(cell: &[u64], n: u64, at: u64, answer: u64, j: u64) -> u64 {
     }
 }
 
-// An emission of the bin at `at`: it is Free and empty, and keeps its stamp.
+// An emission of the bin at `at`: it is Free and empty, and keeps its stamp; one Ready bin less.
 fn emit_word(cell: &[u64], n: u64, at: u64, j: u64) -> u64 {
+    if j == READY {
+        return less(get(cell, READY), 1);
+    }
     if j == at {
         0
     } else {
         emptied(cell, n, wrapping_add_u64(at, 2), j)
+    }
+}
+
+// A pick of bin q: the next one starts behind it.
+fn pick_word(cell: &[u64], n: u64, b: u64, q: u64, j: u64) -> u64 {
+    if j == NEXT_BIN {
+        behind(q, 1, places(b))
+    } else {
+        emit_word(cell, n, bin(n, q), j)
     }
 }
 
@@ -231,12 +261,13 @@ fn call_word(cell: &[u64], n: u64, b: u64, m: u64, t: u64, k: Call, answer: u64,
         DUMP => dump_word(cell, n, m, t, k, answer, j),
         INTEGRATE => integrate_word(cell, n, bin(n, label_bin(cell, b)), answer, j),
         EMIT => emit_word(cell, n, bin(n, number(b, k.a, k.b)), j),
+        PICK => pick_word(cell, n, b, number(b, k.a, k.b), j),
         _ => get(cell, j),
     }
 }
 
 // Word j of cell c after a call that was accepted with this answer. Of a tick, a and b are the X byte and the Y byte
-// that every cell gets.
+// that every cell gets; a pick says which bin it takes.
 fn cell_word(
     cell: &[u64],
     n: u64,
@@ -284,7 +315,18 @@ fn cell_right(
     ok
 }
 
-// Are all words of the cells, and t, what is due?
+// Are t, and the cell at which the next pick starts, what is due?
+fn run_right(mem: &[u64], old: &[u64], n: u64, b: u64, cells: u64, k: Call) -> bool {
+    let t = wrapping_add_u64(get(old, 0), if k.kind == TICK { 1 } else { 0 });
+    let next = if k.kind == PICK {
+        behind(k.cell, 1, cells)
+    } else {
+        next_cell(old, n, b, cells)
+    };
+    (get(mem, 0) == t) & (next_cell(mem, n, b, cells) == next)
+}
+
+// Are all words of the run and of its cells what is due?
 pub fn right(
     mem: &[u64],
     old: &[u64],
@@ -295,8 +337,7 @@ pub fn right(
     k: Call,
     answer: u64,
 ) -> bool {
-    let t = wrapping_add_u64(get(old, 0), if k.kind == TICK { 1 } else { 0 });
-    let mut ok = get(mem, 0) == t;
+    let mut ok = run_right(mem, old, n, b, cells, k);
     let mut c: u64 = 0;
     while c < cells {
         let one = cell_right(mem, old, n, b, m, k, answer, c);

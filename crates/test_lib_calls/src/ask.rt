@@ -15,6 +15,7 @@ use test_lib_rules::call::ACCEPTED;
 use test_lib_rules::call::Call;
 use test_lib_rules::call::DUMP;
 use test_lib_rules::call::PAGE;
+use test_lib_rules::call::PICK;
 use test_lib_rules::call::TICK;
 use test_lib_tools::bytes::get;
 use test_lib_tools::bytes::head;
@@ -39,6 +40,7 @@ fn number(r: Refusal) -> u64 {
         Refusal::Damaged => 11,
         Refusal::NoLag => 12,
         Refusal::BadValidity => 19,
+        Refusal::NothingReady => 20,
         _ => 99,
     }
 }
@@ -129,17 +131,18 @@ pub fn moves(s: Shape, mem: &mut [u64], k: Call, samples: &mut [u8]) -> u64 {
     }
 }
 
-// A dump, an emission or a page.
+// A dump, an emission, a page or a pick.
 fn into_lent(s: Shape, mem: &mut [u64], k: Call, out: &mut [u8]) -> u64 {
     let kind = k.kind;
     match kind {
         DUMP => moved(lta::dump(s, mem, k.cell, k.a, k.b, k.phase, out)),
         PAGE => written(lta::page(s, mem, out)),
+        PICK => written(lta::pick(s, mem, out)),
         _ => written(lta::emit(s, mem, k.cell, k.a, k.b, out)),
     }
 }
 
-// A dump, an emission or a page, into as many bytes as the call lends.
+// Such a call, into as many bytes as it lends.
 fn writes_lent(s: Shape, mem: &mut [u64], k: Call, out: &mut [u8]) -> u64 {
     let room = (k.bytes % 65536) as usize;
     if room <= out.len() {

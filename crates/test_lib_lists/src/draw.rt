@@ -24,7 +24,12 @@ use test_lib_tools::words::less;
 
 // The first steps of a list, without refusals: so many ticks that a cell is held off.
 pub fn first_steps(m: &[u64]) -> u64 {
-    get(m, 9) % 4294967296
+    get(m, 11) % 4294967296
+}
+
+// In every other 250 steps bins get Ready fast.
+fn busy(m: &[u64], i: u64) -> bool {
+    less(i, first_steps(m)) / 250 % 2 == 1
 }
 
 // Draw j of step i.
@@ -57,12 +62,19 @@ fn digit(text: &[u8], i: u64) -> u64 {
     (test_lib_tools::bytes::get(text, (i % 64) as usize) % 16) as u64
 }
 
-// Half of the calls are ticks.
+// Half of the calls are ticks; where bins get Ready fast, two of three are dumps or integrations.
 fn kind(m: &[u64], i: u64) -> u64 {
-    digit(
-        b"000000000000000000000111111112222223334456",
-        random(m, i, 0, 42),
-    )
+    if busy(m, i) {
+        digit(
+            b"0000111111111111222222222222223333777456",
+            random(m, i, 0, 40),
+        )
+    } else {
+        digit(
+            b"0000000000000000000001111111122222233344567",
+            random(m, i, 0, 43),
+        )
+    }
 }
 
 // A length to lend: now and then none, one less, one more or another than is right.
@@ -96,7 +108,7 @@ fn stray(m: &[u64], i: u64) -> u64 {
     }
 }
 
-// The buffer of a dump, an emission or a page: now and then a long one.
+// The buffer of a dump, an emission, a page or a pick: now and then a long one.
 fn room(m: &[u64], i: u64, right: u64) -> u64 {
     let x = random(m, i, 5, 16);
     near(if x == 4 { 3 } else { x }, right, 4100)
@@ -111,11 +123,15 @@ fn bytes(m: &[u64], i: u64, kind: u64) -> u64 {
     }
 }
 
-// Every command from 000 to 1000b, those that are accepted more often, and now and then a far one.
+// Every command from 000 to 1000b, those that are accepted more often, and now and then a far one; where bins get Ready
+// fast, mostly 010.
 fn command(m: &[u64], i: u64) -> u64 {
     let x = random(m, i, 8, 29);
     if x == 28 {
-        past(random(m, i, 9, 6), 9)
+        return past(random(m, i, 9, 6), 9);
+    }
+    if busy(m, i) {
+        digit(b"0123456780122222222222222222", x)
     } else {
         digit(b"0123456780000111122223333447", x)
     }

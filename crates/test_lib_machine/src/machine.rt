@@ -1,4 +1,7 @@
 // The plain machine: what each call answers, and what it does to the sets.
+use crate::picks::begin_wait;
+use crate::picks::picked_cell;
+use crate::picks::serve;
 use crate::sets::FRAME;
 use crate::sets::HELD;
 use crate::sets::OPEN;
@@ -24,6 +27,7 @@ use test_lib_rules::call::DUMP;
 use test_lib_rules::call::EMIT;
 use test_lib_rules::call::INTEGRATE;
 use test_lib_rules::call::PAGE;
+use test_lib_rules::call::PICK;
 use test_lib_rules::call::READING;
 use test_lib_rules::call::SPEED_DUMP;
 use test_lib_rules::call::TICK;
@@ -121,7 +125,16 @@ fn emit_says(m: &[u64], k: Call) -> u64 {
     }
 }
 
-// What a call says whose arguments are right: "8: Held unoccupied", 9 and 10, or its answer; of a forecast, request
+// "20 when no cell has a Ready bin, tested .. before 10", or the frame's length.
+fn pick_says(m: &[u64], bytes: u64) -> u64 {
+    if picked_cell(m) == cells(m) {
+        20
+    } else {
+        frame_words::says(lags(m), BINNED, bytes)
+    }
+}
+
+// What a call says whose arguments are right: "8: Held unoccupied", 9, 20 and 10, or its answer; of a forecast, request
 // 2026-02, "exactly 524,288 less the ticks in the open integration".
 pub fn says(m: &[u64], k: Call) -> u64 {
     let c = k.cell;
@@ -139,6 +152,7 @@ pub fn says(m: &[u64], k: Call) -> u64 {
         EMIT => emit_says(m, k),
         READING => ACCEPTED,
         PAGE => page::says(cells(m), k.bytes),
+        PICK => pick_says(m, k.bytes),
         _ => wrapping_add_u64(ACCEPTED, less(FULL, members(m, c, OPEN))),
     }
 }
@@ -264,6 +278,7 @@ fn move_held(m: &mut [u64], c: u64, k: u64, answer: u64) {
 fn settle(m: &mut [u64], c: u64, k: u64, answer: u64) {
     let last = (of_cell(m, c, 1) == 2) | (answer == 3);
     let after = if last { 2 } else { 1 };
+    begin_wait(&mut *m, c, k, after);
     set_cell(&mut *m, c, 8 + 2 * (k % 32), after);
     set_cell(&mut *m, c, 0, 0);
 }
@@ -281,6 +296,13 @@ fn emit(m: &mut [u64], c: u64, bank: u64, bin: u64) {
     set_cell(&mut *m, c, 8 + 2 * (k % 32), 0);
 }
 
+// A pick of the bin that the call says. "Naming a bin to emit moves no place": a pick does.
+fn pick(m: &mut [u64], k: Call) {
+    let q = bin_number(m, k.a, k.b);
+    emit(&mut *m, k.cell, k.a, k.b);
+    serve(m, k.cell, q);
+}
+
 // An accepted call.
 pub fn apply(m: &mut [u64], k: Call, answer: u64) {
     let kind = k.kind;
@@ -289,6 +311,7 @@ pub fn apply(m: &mut [u64], k: Call, answer: u64) {
         DUMP => dump(m, k, answer),
         INTEGRATE => integrate(m, k.cell, answer),
         EMIT => emit(m, k.cell, k.a, k.b),
+        PICK => pick(m, k),
         _ => {}
     }
 }

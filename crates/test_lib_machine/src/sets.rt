@@ -4,11 +4,14 @@
 //     0        t
 //     1 to 7   the shape: C, N, B, M, S, R, Z
 //     8        the seed of the sampler's bytes
-//     9 to 63  the test's own: which calls it draws, and its counts
+//     9, 10    the cell last served by a pick + 1, or 0 for none; how many picks have served one
+//     11 to 63 the test's own: which calls it draws, and its counts
 //     64 on    1,024 words for each cell:
 //       0 to 5   Held's flag, command, bank and data bin; the stamps of Open and of Held
 //       6, 7     the current block, counted from S; the last command + 1, or 0 for none
 //       8 on     state and stamp of each bin
+//       72 on    of each bin, how many picks there had been when it became Ready
+//       126      the bin last picked + 1, or 0 for none
 //       127      how many spans
 //       128 on   spans: first tick × 65,536 + place
 //

@@ -1,7 +1,8 @@
 // Work memory that nobody but the test has written: two cells, three data bins for a bank, three blocks from 5 on, and
-// every word within its limits. A variant says what differs: is Held occupied, its command, the state of its bin, and
-// is Open full?
+// every word within its limits. A variant says what differs: is Held occupied, its command, the state of its bin, is
+// Open full, and is the first bin Ready?
 use crate::map::greatest;
+use crate::map::start;
 use lta_spec::Shape;
 use std::num::wrapping_add_u64;
 use test_lib_rules::call::cell_words;
@@ -26,6 +27,11 @@ pub fn variant(occupied: u64, command: u64, state: u64, full: u64) -> u64 {
     occupied % 2 + 2 * (command % 3) + 6 * (state % 3) + 18 * (full % 2)
 }
 
+// That variant with a first bin that is not Ready.
+pub fn unready(v: u64) -> u64 {
+    v % 36 + 36
+}
+
 fn occupied(v: u64) -> u64 {
     v % 2
 }
@@ -38,10 +44,10 @@ fn full(v: u64) -> bool {
     v / 18 % 2 == 1
 }
 
-// Of bin q: Ready, Filling and Free in bank 0; in bank 1 the variant's, and Free.
+// Of bin q: Ready, or in some variants Filling, then Filling and Free in bank 0; in bank 1 the variant's, and Free.
 fn state(v: u64, q: u64) -> u64 {
     match q {
-        0 => 2,
+        0 => 2 - v / 36 % 2,
         1 => 1,
         BINS => v / 6 % 3,
         _ => 0,
@@ -65,7 +71,12 @@ fn row_ticks(v: u64, r: u64) -> u64 {
     }
 }
 
-// Flag, label, and the stamps of Open and of Held; block 6 behind a 001.
+// The number of Ready bins: those whose states are 2.
+fn ready(v: u64) -> u64 {
+    state(v, 0) / 2 % 2 + state(v, BINS) / 2 % 2
+}
+
+// Flag, label, and the stamps of Open and of Held; block 6 behind a 001; the next pick starts behind the first bin.
 fn head(v: u64, i: u64) -> u64 {
     match i {
         0 => occupied(v),
@@ -75,7 +86,9 @@ fn head(v: u64, i: u64) -> u64 {
         4 => 900,
         5 => 800,
         6 => 1,
-        _ => stored_command(1),
+        7 => stored_command(1),
+        8 => ready(v),
+        _ => 1,
     }
 }
 
@@ -117,11 +130,11 @@ fn behind_rows(n: u64, v: u64, i: u64, rows: u64, row: bool) -> u64 {
 // Of word i of a cell: the word, or the ticks of its row.
 fn cell_word(n: u64, v: u64, i: u64, row: bool) -> u64 {
     let width = 3 + 2 * (n % 256);
-    let rows = 8 + 8 * width;
-    if i < 8 {
+    let rows = 10 + 8 * width;
+    if i < 10 {
         return head(v, i);
     }
-    let at = i - 8;
+    let at = i - 10;
     if i < rows {
         row_part(row_ticks(v, at / width), at % width, i, row)
     } else {
@@ -129,16 +142,25 @@ fn cell_word(n: u64, v: u64, i: u64, row: bool) -> u64 {
     }
 }
 
-// Word i of memory; or the ticks of the row that it stands in, and any number where it stands in none.
-pub fn word(n: u64, v: u64, i: u64, row: bool) -> u64 {
+// Word i of the cells, which are all alike.
+fn cells_word(n: u64, v: u64, i: u64, row: bool) -> u64 {
     let width = cell_words(n, BINS);
-    if i == 0 {
-        return NOW;
-    }
     if width == 0 {
         return 0;
     }
-    cell_word(n, v, (i - 1) % width, row)
+    cell_word(n, v, i % width, row)
+}
+
+// Word i of memory; or the ticks of the row that it stands in, and any number where it stands in none. The last word
+// has the next pick start at the last cell.
+pub fn word(n: u64, v: u64, i: u64, row: bool) -> u64 {
+    if i == 0 {
+        return NOW;
+    }
+    if i == start(n, BINS, 2) {
+        return 1;
+    }
+    cells_word(n, v, less(i, 1), row)
 }
 
 // Word i of memory with x as word w.

@@ -7,16 +7,23 @@ use crate::map::FLAG;
 use crate::map::HELD;
 use crate::map::HELD_STAMP;
 use crate::map::LAST_COMMAND;
+use crate::map::NEXT_BIN;
 use crate::map::OPEN;
 use crate::map::OPEN_STAMP;
+use crate::map::READY;
 use crate::map::bin;
 use crate::map::cell_of;
 use crate::map::depth;
 use crate::map::greatest;
 use crate::map::loss;
+use crate::map::next_cell;
 use crate::map::number;
 use crate::map::register;
 use crate::map::row;
+use crate::picks::picked_cell;
+use crate::picks::ready;
+use crate::picks::ready_bad;
+use crate::picks::ready_past;
 use lta_spec::Shape;
 use std::num::wrapping_add_u64;
 use test_lib_rules::call::ACCEPTED;
@@ -25,12 +32,14 @@ use test_lib_rules::call::DUMP;
 use test_lib_rules::call::EMIT;
 use test_lib_rules::call::INTEGRATE;
 use test_lib_rules::call::PAGE;
+use test_lib_rules::call::PICK;
 use test_lib_rules::call::READING;
 use test_lib_rules::call::SPEED_DUMP;
 use test_lib_rules::call::TICK;
 use test_lib_rules::call::refusal;
 use test_lib_rules::frame_words;
 use test_lib_rules::page;
+use test_lib_rules::places::places;
 use test_lib_tools::bytes::BINNED;
 use test_lib_tools::bytes::SPEED;
 use test_lib_tools::words::get;
@@ -157,12 +166,30 @@ fn ledger_bad(cell: &[u64], n: u64) -> bool {
     losses_bad(cell, n) | (lost(cell, n) > LONG)
 }
 
-// A cell, as a tick or a page tests it.
-fn tested_bad(cell: &[u64], n: u64, t: u64, kind: u64) -> bool {
-    if kind == TICK {
-        cell_bad(cell, n, t)
-    } else {
-        ledger_bad(cell, n)
+fn bins_bad(cell: &[u64], n: u64, b: u64, t: u64) -> bool {
+    let count = places(b);
+    let mut bad = false;
+    let mut q: u64 = 0;
+    while q < count {
+        let one = bin_bad(cell, n, t, q);
+        bad = bad | one;
+        q += 1;
+    }
+    bad
+}
+
+// A pick, of one cell: "every cell's bins, Ready numbers that differ from them and places not in the run".
+fn round_bad(cell: &[u64], n: u64, b: u64, t: u64) -> bool {
+    let number = get(cell, READY) != ready(cell, n, b);
+    bins_bad(cell, n, b, t) | number | (get(cell, NEXT_BIN) >= places(b))
+}
+
+// A cell, as a tick, a pick or a page tests it.
+fn tested_bad(cell: &[u64], n: u64, b: u64, t: u64, kind: u64) -> bool {
+    match kind {
+        TICK => cell_bad(cell, n, t),
+        PICK => round_bad(cell, n, b, t),
+        _ => ledger_bad(cell, n),
     }
 }
 
@@ -170,7 +197,7 @@ fn cells_bad(mem: &[u64], n: u64, b: u64, cells: u64, kind: u64) -> bool {
     let mut bad = false;
     let mut c: u64 = 0;
     while c < cells {
-        let one = tested_bad(cell_of(mem, n, b, c), n, get(mem, 0), kind);
+        let one = tested_bad(cell_of(mem, n, b, c), n, b, get(mem, 0), kind);
         bad = bad | one;
         c += 1;
     }
@@ -242,17 +269,23 @@ fn integrate_past(cell: &[u64], n: u64, words: &[u64]) -> bool {
     (l != 0) & past(cell, n, l, more)
 }
 
+// A bin that is tested, with the number of Ready bins beside it.
+fn counted_bad(cell: &[u64], n: u64, b: u64, t: u64, q: u64) -> bool {
+    bin_bad(cell, n, t, q) | ready_bad(cell, n, b, q)
+}
+
 // "its label and bin", where Held is occupied.
 fn label_or_bin_bad(cell: &[u64], n: u64, b: u64, t: u64) -> bool {
     if label_bad(cell, b) {
         return true;
     }
-    bin_bad(cell, n, t, label_bin(cell, b)) | integrate_past(cell, n, held_bin(cell, n, b))
+    counted_bad(cell, n, b, t, label_bin(cell, b)) | integrate_past(cell, n, held_bin(cell, n, b))
 }
 
-// "integration, Held, losses and, where Held is occupied, its label and bin".
+// "integration, Held, losses and, where Held is occupied, its label and bin"; where it is not, no bin is tested, and of
+// the number of Ready bins its limit alone.
 fn integrate_bad(cell: &[u64], n: u64, b: u64, t: u64) -> bool {
-    if held_bad(cell, n, t) | losses_bad(cell, n) {
+    if held_bad(cell, n, t) | losses_bad(cell, n) | ready_past(cell, b) {
         return true;
     }
     (get(cell, FLAG) != 0) & label_or_bin_bad(cell, n, b, t)
@@ -264,7 +297,7 @@ fn damaged(cell: &[u64], n: u64, b: u64, m: u64, t: u64, k: Call) -> bool {
     match kind {
         DUMP => counter_bad(cell, m) | dump_bad(cell, n, b, t, k.a),
         INTEGRATE => integrate_bad(cell, n, b, t),
-        EMIT => bin_bad(cell, n, t, number(b, k.a, k.b)),
+        EMIT => counted_bad(cell, n, b, t, number(b, k.a, k.b)),
         READING => losses_bad(cell, n),
         _ => open_bad(cell, n, t),
     }
@@ -345,6 +378,19 @@ fn page_says(mem: &[u64], n: u64, b: u64, cells: u64, bytes: u64) -> u64 {
     }
 }
 
+// A pick: 11, 20, then 10.
+fn pick_says(mem: &[u64], n: u64, b: u64, cells: u64, bytes: u64) -> u64 {
+    let run = (get(mem, 0) > LONG) | (next_cell(mem, n, b, cells) >= cells);
+    if run | cells_bad(mem, n, b, cells, PICK) {
+        return 11;
+    }
+    if picked_cell(mem, n, b, cells) == cells {
+        20
+    } else {
+        frame_words::says(n, BINNED, bytes)
+    }
+}
+
 // A call on one cell; "11: t is above 2,147,483,648".
 fn cell_says(cell: &[u64], n: u64, b: u64, m: u64, t: u64, k: Call) -> u64 {
     if (t > LONG) | damaged(cell, n, b, m, t, k) {
@@ -366,6 +412,7 @@ pub fn says(s: Shape, mem: &[u64], k: Call) -> u64 {
     match kind {
         TICK => tick_says(mem, n, b, s.cells),
         PAGE => page_says(mem, n, b, s.cells, k.bytes),
+        PICK => pick_says(mem, n, b, s.cells, k.bytes),
         _ => cell_says(cell_of(mem, n, b, k.cell), n, b, s.blocks, get(mem, 0), k),
     }
 }

@@ -3,11 +3,16 @@
 use std::num::wrapping_add_u64;
 use test_lib_rules::call::cell_words;
 use test_lib_tools::bytes::PEAK;
+use test_lib_tools::words::get;
 use test_lib_tools::words::less;
 use test_lib_tools::words::tail;
 use test_lib_tools::words::times;
 
-// Held's flag, its label, the stamps of Open and of Held; the current block, counted from S, and the last command.
+// Of the run: t, then the cells.
+pub const CELLS: u64 = 1;
+
+// Held's flag, its label, the stamps of Open and of Held; the current block, counted from S, and the last command; the
+// number of Ready bins, and the bin at which the next pick starts.
 pub const FLAG: u64 = 0;
 
 pub const COMMAND: u64 = 1;
@@ -23,6 +28,10 @@ pub const HELD_STAMP: u64 = 5;
 pub const BLOCK: u64 = 6;
 
 pub const LAST_COMMAND: u64 = 7;
+
+pub const READY: u64 = 8;
+
+pub const NEXT_BIN: u64 = 9;
 
 // The rows of a cell: Open, Held, and loss l as row 1 + l.
 pub const OPEN: u64 = 0;
@@ -49,16 +58,21 @@ pub fn depth(n: u64) -> u64 {
 
 // The first word of cell c in work memory, and its words with all behind them.
 pub fn start(n: u64, b: u64, c: u64) -> u64 {
-    1 + times(c, cell_words(n, b)) % 65536
+    CELLS + times(c, cell_words(n, b)) % 65536
 }
 
 pub fn cell_of(mem: &[u64], n: u64, b: u64, c: u64) -> &[u64] {
     tail(mem, start(n, b, c))
 }
 
+// The cell at which the next pick starts, behind the cells.
+pub fn next_cell(mem: &[u64], n: u64, b: u64, cells: u64) -> u64 {
+    get(mem, start(n, b, cells))
+}
+
 // The first word of row r.
 pub fn row(n: u64, r: u64) -> u64 {
-    8 + times(r, row_words(n)) % 65536
+    10 + times(r, row_words(n)) % 65536
 }
 
 // The first word of the X register (0) or the Y register (1).

@@ -1,9 +1,13 @@
 // The words of work memory that are due, by the map of docs/LAYOUT.md.
 use std::num::wrapping_add_u64;
+use test_lib_machine::picks::next_bin;
+use test_lib_machine::picks::next_cell;
+use test_lib_machine::picks::ready;
 use test_lib_machine::sets::HELD;
 use test_lib_machine::sets::OPEN;
 use test_lib_machine::sets::bin_place;
 use test_lib_machine::sets::bins;
+use test_lib_machine::sets::cells;
 use test_lib_machine::sets::lags;
 use test_lib_machine::sets::members;
 use test_lib_machine::sets::of_cell;
@@ -71,7 +75,16 @@ fn behind_rows(m: &[u64], c: u64, i: u64) -> u64 {
     }
 }
 
-// Word i behind the eight fields.
+// Word i of the ten fields: the last two are the number of Ready bins, and the place at which the next pick starts.
+fn field(m: &[u64], c: u64, i: u64) -> u64 {
+    match i {
+        8 => ready(m, c),
+        9 => next_bin(m, c),
+        _ => of_cell(m, c, i),
+    }
+}
+
+// Word i behind the ten fields.
 fn behind_fields(m: &[u64], c: u64, i: u64) -> u64 {
     let width = 3 + 2 * (lags(m) % 256);
     if i < 8 * width {
@@ -83,23 +96,34 @@ fn behind_fields(m: &[u64], c: u64, i: u64) -> u64 {
 
 // Word i of a cell.
 fn cell_word(m: &[u64], c: u64, i: u64) -> u64 {
-    if i < 8 {
-        of_cell(m, c, i)
+    if i < 10 {
+        field(m, c, i)
     } else {
-        behind_fields(m, c, i - 8)
+        behind_fields(m, c, i - 10)
+    }
+}
+
+// Word i behind t: the cells, and behind them the cell at which the next pick starts.
+fn behind_time(m: &[u64], i: u64) -> u64 {
+    let width = cell_words(lags(m), bins(m));
+    if width == 0 {
+        return 0;
+    }
+    let c = i / width;
+    if c < cells(m) {
+        cell_word(m, c, i % width)
+    } else {
+        next_cell(m)
     }
 }
 
 // Word i of work memory.
 fn word(m: &[u64], i: u64) -> u64 {
-    let width = cell_words(lags(m), bins(m));
     if i == 0 {
-        return time(m);
+        time(m)
+    } else {
+        behind_time(m, i - 1)
     }
-    if width == 0 {
-        return 0;
-    }
-    cell_word(m, (i - 1) / width, (i - 1) % width)
 }
 
 // How many words of work memory are not what is due.

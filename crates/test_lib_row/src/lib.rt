@@ -10,12 +10,14 @@ use test_lib_calls::ask::Numbers;
 use test_lib_memory::due::says;
 use test_lib_memory::map::cell_of;
 use test_lib_memory::map::loss;
+use test_lib_memory::picks::taken;
 use test_lib_rules::call::ACCEPTED;
 use test_lib_rules::call::Call;
 use test_lib_rules::call::DUMP;
 use test_lib_rules::call::EMIT;
 use test_lib_rules::call::FORECAST;
 use test_lib_rules::call::PAGE;
+use test_lib_rules::call::PICK;
 use test_lib_rules::call::READING;
 use test_lib_rules::call::frame_kind;
 use test_lib_tools::bytes::PEAK;
@@ -51,7 +53,7 @@ fn buffer_right(s: Shape, old: &[u64], k: Call, out: &[u8], due: u64) -> bool {
     }
 }
 
-// A dump or an emission with its frame, or a page with its lines.
+// A dump, an emission or a pick with its frame, or a page with its lines.
 fn writes(s: Shape, mem: &mut [u64], old: &[u64], k: Call, due: u64) -> bool {
     let mut out = [0u8; 1300];
     fill_pattern(&mut out);
@@ -90,7 +92,7 @@ fn reads(s: Shape, mem: &[u64], k: Call, due: u64) -> bool {
 fn answers(s: Shape, mem: &mut [u64], old: &[u64], k: Call, due: u64) -> bool {
     let kind = k.kind;
     match kind {
-        DUMP | EMIT | PAGE => writes(s, mem, old, k, due),
+        DUMP | EMIT | PAGE | PICK => writes(s, mem, old, k, due),
         READING => reads(s, mem, k, due),
         FORECAST => ask::forecast(s, mem, k) == due,
         _ => moves(s, mem, k) == due,
@@ -115,9 +117,15 @@ fn leaves(s: Shape, mem: &[u64], old: &[u64], k: Call, due: u64) -> bool {
     }
 }
 
+// The call; a pick that is accepted gets the bin that it takes.
+fn with_bin(s: Shape, old: &[u64], k: Call, due: u64) -> Call {
+    if due < ACCEPTED { k } else { taken(s, old, k) }
+}
+
 // The call on `mem`, whose words are those of `old`, answers `due`, which is also what the model says, and leaves what
 // is due.
-pub fn agrees(s: Shape, mem: &mut [u64], old: &[u64], k: Call, due: u64) -> bool {
+pub fn agrees(s: Shape, mem: &mut [u64], old: &[u64], call: Call, due: u64) -> bool {
+    let k = with_bin(s, old, call, due);
     let told = answers(s, &mut *mem, old, k, due) & (says(s, old, k) == due);
     told & leaves(s, mem, old, k, due)
 }

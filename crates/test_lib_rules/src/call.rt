@@ -24,6 +24,8 @@ pub const FORECAST: u64 = 5;
 
 pub const PAGE: u64 = 6;
 
+pub const PICK: u64 = 7;
+
 // Command 011 of a dump: a speed dump.
 pub const SPEED_DUMP: u64 = 3;
 
@@ -31,8 +33,9 @@ pub struct Call {
     pub kind: u64,
     // Words of work memory lent.
     pub words: u64,
-    // Bytes lent: a tick's samples, or the buffer of a dump, an emission or a page.
+    // Bytes lent: a tick's samples, or the buffer of a dump, an emission, a page or a pick.
     pub bytes: u64,
+    // Cell, bank and data bin are no arguments of a pick: they say what it takes, where a model has found that.
     pub cell: u64,
     // A dump's command, an emission's bank, a reading's lag.
     pub a: u64,
@@ -72,11 +75,11 @@ pub fn shape_wrong(s: Shape) -> bool {
 pub fn cell_words(n: u64, bins: u64) -> u64 {
     let lags = n % 256;
     let b = bins % 1024;
-    34 + 17 * lags + 10 * b + 4 * (times(b, lags) % 4294967296)
+    36 + 17 * lags + 10 * b + 4 * (times(b, lags) % 4294967296)
 }
 
 pub fn needed(s: Shape) -> u64 {
-    wrapping_add_u64(1, times(s.cells, cell_words(s.lags, s.bins)))
+    wrapping_add_u64(2, times(s.cells, cell_words(s.lags, s.bins)))
 }
 
 // "Accepted only if .. (phase + 1) × M ≤ B".
@@ -132,7 +135,7 @@ fn tick_refusal(s: Shape, k: Call) -> u64 {
 }
 
 // The first refusal that the arguments alone give, 0 where there is none. "Setup and every call on a run test 1, then
-// 2, first"; a page has no other argument that they test.
+// 2, first"; a page and a pick have no other argument that they test.
 pub fn refusal(s: Shape, k: Call) -> u64 {
     if shape_wrong(s) {
         return 1;
@@ -143,15 +146,15 @@ pub fn refusal(s: Shape, k: Call) -> u64 {
     let kind = k.kind;
     match kind {
         TICK => tick_refusal(s, k),
-        PAGE => 0,
+        PAGE | PICK => 0,
         _ => cell_refusal(s, k),
     }
 }
 
-// The kind of the frame that a call writes where it is accepted, and 0 where it writes none: an emission's, a speed
-// dump's.
+// The kind of the frame that a call writes where it is accepted, and 0 where it writes none: an emission's or a pick's,
+// a speed dump's.
 pub fn frame_kind(k: Call) -> u64 {
-    if k.kind == EMIT {
+    if (k.kind == EMIT) | (k.kind == PICK) {
         return BINNED;
     }
     if (k.kind == DUMP) & (k.a == SPEED_DUMP) {

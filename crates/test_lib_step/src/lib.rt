@@ -7,6 +7,8 @@ use test_lib_calls::ask::Numbers;
 use test_lib_machine::machine::apply;
 use test_lib_machine::machine::says;
 use test_lib_machine::machine::shape;
+use test_lib_machine::picks::none_is_late;
+use test_lib_machine::picks::taken;
 use test_lib_machine::sets::lags;
 use test_lib_machine::sets::members;
 use test_lib_machine::sets::seed;
@@ -21,6 +23,7 @@ use test_lib_rules::call::DUMP;
 use test_lib_rules::call::EMIT;
 use test_lib_rules::call::FORECAST;
 use test_lib_rules::call::PAGE;
+use test_lib_rules::call::PICK;
 use test_lib_rules::call::READING;
 use test_lib_rules::call::frame_kind;
 use test_lib_rules::call::needed;
@@ -38,14 +41,14 @@ use test_lib_tools::words::less;
 use test_lib_tools::words::put;
 
 // Where the tally of a kind of call stands, of the setups, of the memories compared, and of the list.
-pub const SETUPS: u64 = 7;
+pub const SETUPS: u64 = 8;
 
-const MEMORIES: u64 = 8;
+const MEMORIES: u64 = 9;
 
-pub const LIST: u64 = 9;
+pub const LIST: u64 = 10;
 
 // Where the number of words compared stands.
-pub const WORDS: u64 = 26;
+pub const WORDS: u64 = 27;
 
 pub fn tally(m: &[u64], kind: u64) -> u64 {
     get(m, 16 + kind % 16)
@@ -96,7 +99,7 @@ fn buffer_right(m: &[u64], k: Call, out: &[u8], due: u64) -> bool {
     }
 }
 
-// A dump or an emission with its frame, or a page with its lines.
+// A dump, an emission or a pick with its frame, or a page with its lines.
 fn writes(mem: &mut [u64], m: &[u64], s: Shape, k: Call, due: u64) -> bool {
     let mut out = [0u8; 4200];
     fill_pattern(&mut out);
@@ -128,7 +131,7 @@ fn reads(mem: &[u64], m: &[u64], s: Shape, k: Call, due: u64) -> bool {
 fn answers(mem: &mut [u64], m: &[u64], s: Shape, k: Call, due: u64) -> bool {
     let kind = k.kind;
     match kind {
-        DUMP | EMIT | PAGE => writes(mem, m, s, k, due),
+        DUMP | EMIT | PAGE | PICK => writes(mem, m, s, k, due),
         READING => reads(mem, m, s, k, due),
         FORECAST => ask::forecast(s, mem, k) == due,
         _ => moves(mem, m, s, k) == due,
@@ -161,12 +164,14 @@ fn take(m: &mut [u64], k: Call, due: u64) {
     }
 }
 
-// A call.
-pub fn step(mem: &mut [u64], m: &mut [u64], s: Shape, k: Call) {
+// A call; behind it no Ready bin has waited too long.
+pub fn step(mem: &mut [u64], m: &mut [u64], s: Shape, call: Call) {
+    let k = taken(m, call);
     let due = due(m, s, k);
     let so = agrees(mem, &*m, s, k, due);
-    record(&mut *m, k.kind, so, due < ACCEPTED);
-    take(m, k, due);
+    take(&mut *m, k, due);
+    let fair = none_is_late(m);
+    record(&mut *m, k.kind, so & fair, due < ACCEPTED);
 }
 
 // Every word of memory is compared.

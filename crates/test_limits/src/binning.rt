@@ -10,6 +10,7 @@ use test_lib_memory::base::shape;
 use test_lib_memory::base::variant;
 use test_lib_memory::map::BIN;
 use test_lib_memory::map::BLOCK;
+use test_lib_memory::map::CELLS;
 use test_lib_memory::map::HELD;
 use test_lib_memory::map::LAST_COMMAND;
 use test_lib_memory::map::bin_row;
@@ -172,8 +173,8 @@ fn dump_of(words: u64, command: u64, phase: u64) -> Call {
 
 // The block of cell 0 and its last command, as they are stored.
 fn put_block(mem: &mut [u64], block: u64, last: u64) {
-    put(&mut *mem, 1 + BLOCK, block);
-    put(mem, 1 + LAST_COMMAND, last);
+    put(&mut *mem, CELLS + BLOCK, block);
+    put(mem, CELLS + LAST_COMMAND, last);
 }
 
 // The data bin in the label of a dump that is kept, or in W1 of a speed frame.
@@ -181,14 +182,14 @@ fn told_bin(mem: &[u64], out: &[u8], command: u64) -> u64 {
     if command == SPEED_DUMP {
         (word(out, 1) as u64 >> 16) % 32768
     } else {
-        get(mem, 1 + BIN)
+        get(mem, CELLS + BIN)
     }
 }
 
 // Is the block as it is due, and the data bin where the dump tells it?
 fn counted(mem: &[u64], out: &[u8], command: u64, block: u64, bin: u64) -> bool {
     let labelled = (command > 3) | (told_bin(mem, out, command) == bin);
-    labelled & (get(mem, 1 + BLOCK) == block)
+    labelled & (get(mem, CELLS + BLOCK) == block)
 }
 
 // The ticks of a bin and of Held: six pairs, of which the second, fourth and sixth pass 16,777,215 by one.

@@ -198,7 +198,7 @@ fn bad(t: Tally, s: Shape) -> Tally {
 fn calls(t: Tally, s: Shape) -> Tally {
     let mut sum = t;
     let mut kind: u64 = 0;
-    while kind < 7 {
+    while kind < 8 {
         sum = call(sum, s, kind);
         kind += 1;
     }
@@ -279,12 +279,13 @@ fn with(kind: u64, command: u64, p: u64, v: u64) -> Call {
 }
 
 // Row r: kind r div 84, a speed dump behind the others; argument r div 14 mod 6, value r mod 14. The fifth is the
-// length of memory, where a length that the test cannot lend is cut to one that it can; the sixth the bytes lent.
+// length of memory, where a length that the test cannot lend is cut to one that it can; the sixth the bytes lent: of a
+// page and of a pick these two are all.
 pub fn arguments(t: Tally, r: u64) -> Tally {
     let p = r / 14 % 6;
     let v = get(&ARGUMENTS, r % 14);
-    let kind = pick(r < 504, r / 84, DUMP);
-    let command = pick(r < 504, 2, SPEED_DUMP);
+    let kind = pick(r < 672, r / 84, DUMP);
+    let command = pick(r < 672, 2, SPEED_DUMP);
     let k = with(kind, command, p, pick(p > 3, v % 512 % 300, v));
     let old = built(2, variant(r / 7, 1, 2, 0), needed(shape(2)), 0, NOW);
     modelled(t, shape(2), old, k)

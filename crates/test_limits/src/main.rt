@@ -11,7 +11,7 @@ use test_lib_tools::report::verdict;
 use test_lib_tools::words::get;
 
 // How many rows a group has; each may count as some.
-const ROWS: [u64; 10] = [60, 56, 90, 588, 18, 36, 512, 1024, 1028, 16];
+const ROWS: [u64; 10] = [60, 56, 90, 756, 18, 36, 512, 1024, 1028, 16];
 
 // Row i of group g.
 fn one(t: Tally, g: u64, i: u64) -> Tally {

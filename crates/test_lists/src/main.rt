@@ -63,8 +63,8 @@ fn fresh(m: &[u64], l: u64, i: u64) -> u64 {
         6 => s.rate,
         7 => s.second,
         8 => mix(l, 1),
-        9 => ticks_of(l),
-        16..=24 | WORDS => get(m, i),
+        11 => ticks_of(l),
+        16..=25 | WORDS => get(m, i),
         _ => 0,
     }
 }
@@ -117,7 +117,7 @@ fn part_of(mem: &mut [u64], m: &mut [u64], p: u64) {
 
 fn parts(mem: &mut [u64], m: &mut [u64]) {
     let mut p: u64 = 0;
-    while p < 12 {
+    while p < 16 {
         part_of(&mut *mem, &mut *m, p);
         p += 1;
     }
@@ -144,15 +144,15 @@ fn list(m: &mut [u64], l: u64) -> u64 {
 
 // The line of a kind of call.
 fn total(m: &[u64], kind: u64) {
-    let names =
-        b"ticks       dumps       integrationsemissions   readings    forecasts   pages       setups      memories    ";
+    let names = b"ticks       dumps       integrationsemissions   readings    forecasts   \
+        pages       picks       setups      memories    ";
     part(names, 12 * (kind % 16), 12);
     counts(tally(m, kind));
 }
 
 fn totals(m: &[u64]) {
     let mut kind: u64 = 0;
-    while kind < 9 {
+    while kind < 10 {
         total(m, kind);
         kind += 1;
     }

@@ -1,18 +1,22 @@
 // "Where several apply, the order stands after each group": each call with every choice of the defects that it may be
 // told of. The first in the papers' order is due. A dump comes three times, with another word damaged, and once more
-// with command 011; a page twice; a tick twice, with its bytes wrong in another way.
+// with command 011; a pick four times, a page, an integration and an emission twice; a tick twice, with its bytes wrong
+// in another way.
 use lta_spec::Shape;
 use std::num::wrapping_add_u64;
 use test_lib_memory::base::BINS;
 use test_lib_memory::base::NOW;
 use test_lib_memory::base::built;
 use test_lib_memory::base::shape;
+use test_lib_memory::base::unready;
 use test_lib_memory::base::variant;
 use test_lib_memory::due::says;
 use test_lib_memory::map::BLOCK;
 use test_lib_memory::map::HELD_STAMP;
 use test_lib_memory::map::LAST_COMMAND;
+use test_lib_memory::map::NEXT_BIN;
 use test_lib_memory::map::OPEN_STAMP;
+use test_lib_memory::map::READY;
 use test_lib_memory::map::bin;
 use test_lib_memory::map::loss;
 use test_lib_memory::map::register;
@@ -24,6 +28,7 @@ use test_lib_rules::call::DUMP;
 use test_lib_rules::call::EMIT;
 use test_lib_rules::call::INTEGRATE;
 use test_lib_rules::call::PAGE;
+use test_lib_rules::call::PICK;
 use test_lib_rules::call::READING;
 use test_lib_rules::call::SPEED_DUMP;
 use test_lib_rules::call::TICK;
@@ -36,16 +41,16 @@ use test_lib_tools::words::put;
 const LAGS: u64 = 2;
 
 // A dump with command 011, which has an order of its own.
-const SPEED: u64 = 7;
+const SPEED: u64 = 8;
 
 // The second group of ticks.
-const SHORT: u64 = 11;
+const SHORT: u64 = 12;
 
-// The orders of a tick, a dump, an integration, an emission, a reading, a forecast, a page and a speed dump, two
-// hexadecimal digits to a number, the first lowest: "Then 11", and 19 "tested after 3 and before 4"; "Order 5, 6, 7,
-// 11", "Order 5, 11, then 8", and so on; "by 10 after 1, 2 and 11"; "Refusal 6 no longer covers 011; 10 applies to it
-// last".
-const ORDER: [u64; 8] = [
+// The orders of a tick, a dump, an integration, an emission, a reading, a forecast, a page, a pick and a speed dump,
+// two hexadecimal digits to a number, the first lowest: "Then 11", and 19 "tested after 3 and before 4"; "Order 5, 6,
+// 7, 11", "Order 5, 11, then 8", and so on; "by 10 after 1, 2 and 11"; 20 "tested after 1, 2 and 11 and before 10";
+// "Refusal 6 no longer covers 011; 10 applies to it last".
+const ORDER: [u64; 9] = [
     0x0b_04_13_03_02_01,
     0x0b_07_06_05_02_01,
     0x08_0b_05_02_01,
@@ -53,6 +58,7 @@ const ORDER: [u64; 8] = [
     0x0b_0c_05_02_01,
     0x0b_05_02_01,
     0x0a_0b_02_01,
+    0x0a_14_0b_02_01,
     0x0a_0b_07_05_02_01,
 ];
 
@@ -165,47 +171,70 @@ fn call(g: u64, kind: u64, mask: u64) -> Call {
 // The kind of call of group g.
 fn kind_of(g: u64) -> u64 {
     match g {
-        8 | 9 => DUMP,
-        10 => PAGE,
+        9 | 10 => DUMP,
+        11 => PAGE,
         SHORT => TICK,
+        13 | 14 | 15 => PICK,
+        16 => INTEGRATE,
+        17 => EMIT,
         _ => g,
     }
 }
 
 // The word of the last cell that 11 is told of in group g: a register entry, Open's stamp, Held's, the bin's, the
-// ticks of a loss, the current block, the last command. A speed dump is told of Held, which it leaves as it is.
-fn damaged(g: u64) -> u64 {
+// ticks of a loss, the current block, the last command, the number of Ready bins, the place of the next pick. A speed
+// dump is told of Held, which it leaves as it is.
+fn cell_word(g: u64) -> u64 {
     match g {
         TICK | SHORT => register(LAGS, 1),
         INTEGRATE | SPEED => HELD_STAMP,
-        EMIT => wrapping_add_u64(bin(LAGS, BINS), 1),
+        EMIT | PICK => wrapping_add_u64(bin(LAGS, BINS), 1),
         READING => row(LAGS, loss(6)),
-        PAGE | 10 => row(LAGS, loss(1)),
-        8 => BLOCK,
-        9 => LAST_COMMAND,
+        PAGE | 11 => row(LAGS, loss(1)),
+        9 => BLOCK,
+        10 => LAST_COMMAND,
+        13 | 16 | 17 => READY,
+        14 => NEXT_BIN,
         _ => OPEN_STAMP,
     }
 }
 
-// What stands there: past every limit, or, in the second group of pages, ticks within their own, where the six pass
-// theirs together.
-fn value(g: u64) -> u64 {
-    if g == 10 { 2147483648 } else { 2147483649 }
+// That word of memory, or behind the two cells the run's, the cell at which the next pick starts.
+fn damaged(g: u64) -> u64 {
+    if g == 15 {
+        start(LAGS, BINS, 2)
+    } else {
+        wrapping_add_u64(start(LAGS, BINS, 1), cell_word(g))
+    }
 }
 
-// Memory of a Ready bin, and of a Held that is occupied and empty; 4: t is 2,147,483,648; 9: a bin that is Filling;
-// 11: a word of the last cell is damaged.
+// What stands there: past every limit; in the second group of pages ticks within their own, where the six pass theirs
+// together; one Ready bin more than there are; bin 2B; cell C; in the second groups of integrations and of emissions,
+// 2B + 1 Ready bins.
+fn value(g: u64) -> u64 {
+    match g {
+        11 => 2147483648,
+        13 => 3,
+        14 => 6,
+        15 => 2,
+        16 | 17 => 7,
+        _ => 2147483649,
+    }
+}
+
+// Memory of Ready bins, and of a Held that is occupied and empty; 9: a bin that is Filling; 20: no bin that is Ready.
+fn variant_of(kind: u64, mask: u64) -> u64 {
+    let state = choose(kind, mask, 9, 1, choose(kind, mask, 20, 1, 2));
+    let v = variant(choose(kind, mask, 8, 0, 1), 1, state, 0);
+    choose(kind, mask, 20, unready(v), v)
+}
+
+// 4: t is 2,147,483,648; 11: a word is damaged.
 fn memory(kind: u64, mask: u64, word: u64, x: u64) -> [u64; 384] {
-    let v = variant(
-        choose(kind, mask, 8, 0, 1),
-        1,
-        choose(kind, mask, 9, 1, 2),
-        0,
-    );
     let t = choose(kind, mask, 4, 2147483648, NOW);
-    let mut mem = built(LAGS, v, needed(shape(LAGS)), 0, t);
+    let mut mem = built(LAGS, variant_of(kind, mask), needed(shape(LAGS)), 0, t);
     if has(kind, mask, 11) {
-        put(&mut mem, wrapping_add_u64(start(LAGS, BINS, 1), word), x);
+        put(&mut mem, word, x);
     }
     mem
 }
@@ -217,7 +246,7 @@ fn due(told: u64, s: Shape, old: [u64; 384], k: Call) -> u64 {
 
 // Row r: group r div 128, mask r mod 128.
 pub fn refusals(t: Tally, r: u64) -> Tally {
-    let g = r / 128 % 12;
+    let g = r / 128 % 18;
     let kind = kind_of(g);
     let mask = r % 128;
     let old = memory(kind, mask, damaged(g), value(g));

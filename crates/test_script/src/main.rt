@@ -10,7 +10,7 @@ use script_bytes::head;
 
 // A script on a fresh run: its text goes into a buffer, and from there to standard output.
 fn play(s: &[u8]) {
-    let mut mem = [0u64; 105];
+    let mut mem = [0u64; 108];
     let Started::Fresh = lta::setup(shape(), &mut mem) else {
         return;
     };

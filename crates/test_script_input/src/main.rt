@@ -9,7 +9,7 @@ use script::shape;
 
 // A script from a file descriptor, through the block lent.
 fn stream(fd: i32, block: &mut [u8]) {
-    let mut mem = [0u64; 105];
+    let mut mem = [0u64; 108];
     let Started::Fresh = lta::setup(shape(), &mut mem) else {
         return;
     };

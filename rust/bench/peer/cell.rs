@@ -4,7 +4,10 @@ use std::ops::Range;
 
 use lta::Loss;
 
-use super::layout::{Layout, BANK, BLOCK, COMMAND, DATA_BIN, HELD_STAMP, LAST_COMMAND, OCCUPIED, OPEN_STAMP};
+use super::layout::{
+    Layout, BANK, BLOCK, COMMAND, DATA_BIN, HELD_STAMP, LAST_COMMAND, NEXT_BIN, OCCUPIED, OPEN_STAMP,
+    READY_BINS,
+};
 use super::row::{add_tick, move_row, register_ok, row_ok, shift};
 use super::{ADD, BIN_LIMIT, DISCARD, FILLING, FREE, IDLE, LAST, OPEN_LIMIT, READY, RUN_LIMIT, SAVE, SPEED};
 
@@ -82,6 +85,46 @@ impl CellRef<'_> {
         state_ok && self.stamp_ok(self.layout.bin_stamp(number), t) && row_ok(row, BIN_LIMIT)
     }
 
+    pub fn is_ready(&self, number: usize) -> bool {
+        self.words[self.layout.state(number)] == READY
+    }
+
+    fn number_ok(&self) -> bool {
+        (0..=self.layout.all_bins() as i64).contains(&self.words[READY_BINS])
+    }
+
+    /// Not 0 beside a Ready bin, and not all beside another.
+    fn number_fits(&self, bin: usize) -> bool {
+        let never = if self.is_ready(bin) { 0 } else { self.layout.all_bins() as i64 };
+        self.number_ok() && self.words[READY_BINS] != never
+    }
+
+    pub fn emit_ok(&self, t: i64, number: usize) -> bool {
+        self.bin_ok(t, number) && self.number_fits(number)
+    }
+
+    pub fn pick_ok(&self, t: i64) -> bool {
+        let mut ready = 0;
+        for number in 0..self.layout.all_bins() {
+            if !self.bin_ok(t, number) {
+                return false;
+            }
+            ready += i64::from(self.is_ready(number));
+        }
+        let next_ok = (0..self.layout.all_bins() as i64).contains(&self.words[NEXT_BIN]);
+        ready == self.words[READY_BINS] && next_ok
+    }
+
+    pub fn any_ready(&self) -> bool {
+        self.words[READY_BINS] != 0
+    }
+
+    /// The Ready bin whose turn it is in the cell.
+    pub fn next_ready(&self) -> Option<usize> {
+        let next = self.words[NEXT_BIN] as usize;
+        (next..self.layout.all_bins()).chain(0..next).find(|number| self.is_ready(*number))
+    }
+
     pub fn tick_ok(&self, t: i64) -> bool {
         let full = self.ticks(self.layout.open()) == OPEN_LIMIT;
         register_ok(&self.words[self.layout.x()])
@@ -115,13 +158,13 @@ impl CellRef<'_> {
     }
 
     pub fn integrate_ok(&self, t: i64) -> bool {
-        if !(self.held_ok(t) && self.losses_ok()) {
+        if !(self.held_ok(t) && self.losses_ok() && self.number_ok()) {
             return false;
         }
         if !self.occupied() {
             return true;
         }
-        if !(self.label_ok() && self.bin_ok(t, self.held_bin())) {
+        if !(self.label_ok() && self.emit_ok(t, self.held_bin())) {
             return false;
         }
         let bin = self.held_bin();
@@ -219,6 +262,7 @@ impl Cell<'_> {
             return self.lose(layout.held(), Loss::Full);
         }
         self.words[layout.state(bin)] = if command == LAST { READY } else { FILLING };
+        self.words[READY_BINS] += i64::from(command == LAST);
         let mut answer = 0;
         if state == FILLING && command == SAVE {
             answer = self.lose(layout.bin_row(bin), Loss::Replaced);

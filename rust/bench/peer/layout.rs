@@ -3,6 +3,11 @@ use std::ops::Range;
 
 use lta::Shape;
 
+/// The words of a run besides its cells: t in front, and in the last word the cell at which the next pick starts.
+pub const RUN_WORDS: usize = 2;
+/// Where the cells start.
+pub const CELLS: usize = 1;
+
 pub const OCCUPIED: usize = 0;
 pub const COMMAND: usize = 1;
 pub const BANK: usize = 2;
@@ -13,7 +18,11 @@ pub const HELD_STAMP: usize = 5;
 pub const BLOCK: usize = 6;
 /// One more than the last command, or 0 where there is none.
 pub const LAST_COMMAND: usize = 7;
-const HEAD: usize = 8;
+/// How many bins are Ready.
+pub const READY_BINS: usize = 8;
+/// The bin at which the next pick in the cell starts.
+pub const NEXT_BIN: usize = 9;
+const HEAD: usize = 10;
 
 #[derive(Clone, Copy)]
 pub struct Layout {
@@ -32,7 +41,12 @@ impl Layout {
 
     /// The words of a cell.
     pub fn words(&self) -> usize {
-        self.bin_start(2 * self.bins)
+        self.bin_start(self.all_bins())
+    }
+
+    /// How many bins both banks have.
+    pub fn all_bins(&self) -> usize {
+        2 * self.bins
     }
 
     fn row(&self, number: usize) -> Range<usize> {

@@ -1,13 +1,13 @@
 //! Altered work memory: words changed to values near their limits. Refusal 11 is given exactly by the clauses of
-//! document 01 and requests 2026-01, 2026-03, 2026-04 and 2026-06 on the parts that the call tests, and what is bad
-//! elsewhere is kept as it is.
+//! document 01 and requests 2026-01, 2026-03, 2026-04, 2026-06 and 2026-07 on the parts that the call tests, and what
+//! is bad elsewhere is kept as it is.
 use crate::call::{Call, Reply, Shape};
 use crate::damage;
 use crate::driver::{fresh, perform};
 use crate::generator::{self, Generator};
 use crate::layout::{self, Kind};
 use crate::random::Random;
-use crate::rules::{BIN_LIMIT, OPEN_LIMIT, PEAK, RUN_LIMIT};
+use crate::rules::{BIN_LIMIT, OPEN_LIMIT, PEAK, READY, RUN_LIMIT};
 use crate::signed::Run;
 use crate::tally::Tally;
 
@@ -18,7 +18,7 @@ const ALTERATIONS: usize = 250;
 pub fn near_limit(random: &mut Random, kind: Kind, mem: &[u64], shape: &Shape) -> u64 {
     let t = mem[0];
     let far = random.extreme();
-    let Shape { bins, blocks, .. } = *shape;
+    let Shape { cells, bins, blocks, .. } = *shape;
     match kind {
         Kind::Time => random.pick(&[RUN_LIMIT - 1, RUN_LIMIT, RUN_LIMIT + 1, t.wrapping_sub(1), 0, far]),
         Kind::Flag => random.pick(&[0, 1, 1, 2, far]),
@@ -28,6 +28,9 @@ pub fn near_limit(random: &mut Random, kind: Kind, mem: &[u64], shape: &Shape) -
         Kind::Stamp => random.pick(&[0, t, t.wrapping_add(1), far]),
         Kind::Block => random.pick(&[0, blocks - 1, blocks - 1, blocks, blocks + 1, far]),
         Kind::LastCommand => random.pick(&[0, 1, 2, 3, 4, 5, 6, 8, far]),
+        Kind::NextCell => random.pick(&[0, cells - 1, cells - 1, cells, cells + 1, far]),
+        Kind::ReadyBins => random.pick(&[0, 1, 2, 2 * bins - 1, 2 * bins, 2 * bins + 1, far]),
+        Kind::NextBin => random.pick(&[0, bins, 2 * bins - 1, 2 * bins, 2 * bins + 1, far]),
         Kind::State => random.pick(&[0, 1, 1, 2, 2, 3, far]),
         Kind::Entry => random.pick(&[0, 8, 255, 256, 511, 512, far]),
         Kind::Ticks(limit) => {
@@ -119,13 +122,14 @@ fn altered_memory() {
         }
     }
     tally.print("altered memory");
-    for name in ["tick", "dump", "integrate", "emit", "reading", "forecast", "page"] {
+    for name in ["tick", "dump", "integrate", "emit", "pick", "reading", "forecast", "page"] {
         tally.met(name, &["refusal 11"]);
     }
     tally.met("tick", &["accepted", "held off", "refusal 3", "refusal 19", "refusal 4"]);
     tally.met("integrate", &["answer 0", "answer 3", "answer 4", "answer 5", "refusal 8"]);
     tally.met("dump", &["answer 0", "answer 1", "answer 2", "answer 7", "a frame", "refusal 10"]);
     tally.met("emit", &["accepted", "refusal 9"]);
+    tally.met("pick", &["accepted", "refusal 20", "refusal 10"]);
     tally.met("page", &["accepted", "refusal 10"]);
 }
 
@@ -159,9 +163,11 @@ fn a_loss_at_its_limit() {
             set_ticks(&mut mem, &kinds, OPEN_LIMIT, 1, held);
             set_ticks(&mut mem, &kinds, BIN_LIMIT, 0, bin);
             set_ticks(&mut mem, &kinds, RUN_LIMIT, loss - 1, RUN_LIMIT - part + over);
-            (mem[1], mem[2]) = (flag, command);
-            let bin_at = kinds.iter().position(|kind| *kind == Kind::State).unwrap();
-            mem[bin_at] = state;
+            let mut set = |kind, word| mem[kinds.iter().position(|other| *other == kind).unwrap()] = word;
+            set(Kind::Flag, flag);
+            set(Kind::Command, command);
+            set(Kind::State, state);
+            set(Kind::ReadyBins, u64::from(state == READY));
             let reply = perform(&shape.numbers(), &mut mem, call);
             let refused = reply == Reply::Refused(11);
             assert_eq!(refused, over == 1, "{call:?}, loss {loss}, {over} past it: {reply:?}");
@@ -200,7 +206,8 @@ fn with_word(shape: &Shape, at: usize, word: u64, bad: bool) {
     let reading = Call::Reading { cell, lag, loss, room: [2, 3] };
     let tick = Call::Tick { samples: vec![0x02; 6] };
     let page = Call::Page { room: shape.page_length() };
-    for call in [tick, reading, Call::Forecast { cell }, page, emit, Call::Integrate { cell }] {
+    let pick = Call::Pick { room: shape.frame_length() };
+    for call in [tick, reading, Call::Forecast { cell }, page, emit, Call::Integrate { cell }, pick] {
         let reply = perform(&shape.numbers(), &mut sound, &call);
         assert!(!matches!(reply, Reply::Refused(_)), "{call:?}: {reply:?}");
         assert_eq!(perform(&shape.numbers(), &mut altered, &call), reply, "{call:?}, word {at} as {word}");

@@ -45,6 +45,7 @@ pub enum Call {
     Dump { cell: u64, command: u64, bank: u64, phase: u64, room: usize },
     Integrate { cell: u64 },
     Emit { cell: u64, bank: u64, bin: u64, room: usize },
+    Pick { room: usize },
     Reading { cell: u64, lag: u64, loss: u64, room: [usize; 2] },
     Forecast { cell: u64 },
     Page { room: usize },

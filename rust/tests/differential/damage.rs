@@ -73,8 +73,13 @@ fn dump_finds(cell: &Cell, t: u64, shape: &Shape, command: u64) -> bool {
     }
 }
 
+/// "where the cell's Ready number is above 2B, or is 0 though the bin tested is Ready, or 2B though it isn't"
+fn number_bad(cell: &Cell, bins: u64, tested: &Bin) -> bool {
+    cell.ready > 2 * bins || cell.ready == if tested.state == READY { 0 } else { 2 * bins }
+}
+
 fn integration_finds(cell: &Cell, t: u64, bins: u64) -> bool {
-    if held_bad(cell, t) || losses_bad(cell) {
+    if held_bad(cell, t) || losses_bad(cell) || cell.ready > 2 * bins {
         return true;
     }
     let held = &cell.held;
@@ -85,7 +90,7 @@ fn integration_finds(cell: &Cell, t: u64, bins: u64) -> bool {
         return true;
     }
     let bin = &cell.bins[(held.bank * bins + held.bin) as usize];
-    if bin_bad(bin, t) {
+    if bin_bad(bin, t) || number_bad(cell, bins, bin) {
         return true;
     }
     let wide = held.command != SAVE && bin.row.ticks + held.row.ticks > BIN_LIMIT;
@@ -94,6 +99,17 @@ fn integration_finds(cell: &Cell, t: u64, bins: u64) -> bool {
         FILLING if held.command == SAVE => passes(&cell.losses[3], bin.row.ticks),
         _ => wide && passes(&cell.losses[4], held.row.ticks),
     }
+}
+
+fn emission_finds(cell: &Cell, t: u64, bins: u64, tested: &Bin) -> bool {
+    bin_bad(tested, t) || number_bad(cell, bins, tested)
+}
+
+/// Any bin, a Ready number that differs from the bins, or a place that is none of the cell's.
+fn pick_finds(cell: &Cell, t: u64) -> bool {
+    let ready = cell.bins.iter().filter(|bin| bin.state == READY).count();
+    let bad = cell.bins.iter().any(|bin| bin_bad(bin, t));
+    bad || cell.ready != ready as u64 || cell.picked >= cell.bins.len() as u64
 }
 
 /// A loss, or the six together.
@@ -111,7 +127,12 @@ pub fn found(run: &Run, call: &Call) -> bool {
         Call::Tick { .. } => run.cells.iter().any(|cell| tick_finds(cell, t)),
         Call::Dump { cell, command, .. } => dump_finds(run.cell(cell), t, &run.shape, command),
         Call::Integrate { cell } => integration_finds(run.cell(cell), t, bins),
-        Call::Emit { cell, bank, bin, .. } => bin_bad(run.bin(cell, bank, bin), t),
+        Call::Emit { cell, bank, bin, .. } => {
+            emission_finds(run.cell(cell), t, bins, run.bin(cell, bank, bin))
+        }
+        Call::Pick { .. } => {
+            run.served >= run.shape.cells || run.cells.iter().any(|cell| pick_finds(cell, t))
+        }
         Call::Reading { cell, .. } => losses_bad(run.cell(cell)),
         Call::Forecast { cell } => open_bad(run.cell(cell), t),
         Call::Page { .. } => run.cells.iter().any(page_finds),

@@ -37,6 +37,10 @@ fn emit(shape: &[u64], mem: &mut [u64], (cell, bank, bin): (u64, u64, u64), room
     frame.map_or_else(Reply::Refused, Reply::Frame)
 }
 
+fn pick(shape: &[u64], mem: &mut [u64], room: usize) -> Reply {
+    written(room, |out| ffi::pick(shape, mem, out)).map_or_else(Reply::Refused, Reply::Frame)
+}
+
 /// A speed dump writes in the buffer that is lent with it, and no other command does.
 fn dump(shape: &[u64], mem: &mut [u64], [cell, command, bank, phase]: [u64; 4], room: usize) -> Reply {
     if command == SPEED {
@@ -78,6 +82,7 @@ pub fn perform(shape: &[u64], mem: &mut [u64], call: &Call) -> Reply {
         }
         Call::Integrate { cell } => number(ffi::integrate(shape, mem, cell)),
         Call::Emit { cell, bank, bin, room } => emit(shape, mem, (cell, bank, bin), room),
+        Call::Pick { room } => pick(shape, mem, room),
         Call::Reading { cell, lag, loss, room } => reading(shape, mem, (cell, lag, loss), room),
         Call::Forecast { cell } => number(ffi::forecast(shape, mem, cell)),
         Call::Page { room } => page(shape, mem, room),

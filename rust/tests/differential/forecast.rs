@@ -57,7 +57,7 @@ fn counts(pair: &mut Pair) -> Vec<[u64; 2]> {
 /// The cell that a call names.
 fn named(call: &Call) -> Option<u64> {
     match *call {
-        Call::Tick { .. } | Call::Page { .. } => None,
+        Call::Tick { .. } | Call::Pick { .. } | Call::Page { .. } => None,
         Call::Dump { cell, .. } | Call::Integrate { cell } | Call::Emit { cell, .. } => Some(cell),
         Call::Reading { cell, .. } | Call::Forecast { cell } => Some(cell),
     }
@@ -79,6 +79,7 @@ impl Calls {
         all.met("tick", &["accepted", "held off"]);
         all.met("tick", &["refusal 1", "refusal 2", "refusal 3", "refusal 19", "refusal 4"]);
         all.met("page", &["accepted", "refusal 1", "refusal 2", "refusal 10"]);
+        all.met("pick", &["accepted", "refusal 1", "refusal 2", "refusal 10", "refusal 20"]);
         own.met("tick", &["joins", "joins, another held off", "held off", "held off, another held off"]);
         own.met("dump", &["answer 7", "refusal 6", "refusal 7", "refusal 10"]);
         own.met("integrate", &["answer 0", "answer 3", "answer 4", "refusal 8"]);

@@ -94,13 +94,16 @@ pub struct Generator {
     pub shape: Shape,
     sky: Sky,
     commands: Commands,
+    /// A pick is made once in so many turns of one: where picks are rare, Ready bins gather.
+    rare: u64,
 }
 
 impl Generator {
     pub fn new(mut random: Random, shape: Shape) -> Generator {
         let sky = random.pick(&[Sky::Any, Sky::Any, Sky::Loud, Sky::Broken]);
         let commands = random.pick(&[MIXED, MIXED, MIXED, ADDS, LASTS, SPEEDS]);
-        Generator { random, shape, sky, commands }
+        let rare = random.pick(&[1, 1, 4, 16]);
+        Generator { random, shape, sky, commands, rare }
     }
 
     /// X, Y and validity byte of one cell.
@@ -171,6 +174,10 @@ impl Generator {
         Call::Emit { cell, bank, bin, room }
     }
 
+    fn pick(&mut self) -> Call {
+        Call::Pick { room: self.room(self.shape.frame_length()) }
+    }
+
     /// A buffer for so many bytes, or one time in six one of another length.
     fn room(&mut self, length: usize) -> usize {
         let any = self.random.below(2 * length as u64) as usize;
@@ -196,13 +203,15 @@ impl Generator {
 
     /// One call on this run, a tick in about half of the cases.
     pub fn call(&mut self, run: &Run) -> Call {
-        match self.random.below(33) {
+        match self.random.below(35) {
             0..=15 => Call::Tick { samples: self.samples() },
             16..=21 => self.dump(),
             22..=26 => Call::Integrate { cell: self.argument(self.shape.cells) },
             27..=28 => self.emit(run),
             29..=30 => self.reading(),
             31 => Call::Forecast { cell: self.argument(self.shape.cells) },
+            32..=33 if self.random.once_in(self.rare) => self.pick(),
+            32..=33 => self.dump(),
             _ => Call::Page { room: self.room(self.shape.page_length()) },
         }
     }

@@ -14,7 +14,7 @@ const SHAPE: Shape = Shape { cells: 1, lags: 6, bins: 1, blocks: 1, start: 0, ra
 const TICKS: u64 = 50;
 
 /// Where the row of Open stands: its ticks, and from the third word behind them its sums.
-const OPEN: usize = 9;
+const OPEN: usize = 11;
 
 /// A run whose Open has only ticks in which each lag adds the same: X has this byte, and Y a -8 of phase 0. The
 /// registers are filled before, by ticks that are discarded.

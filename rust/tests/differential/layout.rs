@@ -1,12 +1,14 @@
 //! The words of a run by docs/LAYOUT.md. Both ways round lose nothing, whatever the words are.
 use crate::call::Shape;
-use crate::rules::{cell_words, BIN_LIMIT, OPEN_LIMIT, PEAK, RUN_LIMIT};
+use crate::rules::{cell_at, BIN_LIMIT, OPEN_LIMIT, PEAK, RUN_LIMIT};
 use crate::signed::{Cell, Row, Run};
 
 /// What a word is.
 #[derive(Clone, Copy, Debug, PartialEq, Eq)]
 pub enum Kind {
     Time,
+    /// The cell at which the next pick starts.
+    NextCell,
     Flag,
     Command,
     Bank,
@@ -14,6 +16,10 @@ pub enum Kind {
     Stamp,
     Block,
     LastCommand,
+    /// How many bins are Ready.
+    ReadyBins,
+    /// The bin at which the next pick in the cell starts.
+    NextBin,
     State,
     Entry,
     /// The ticks of a row, which may hold so many.
@@ -65,6 +71,26 @@ fn walk_block(walk: &mut impl Walk, cell: &mut Cell, start: u64) {
     (cell.block, cell.last) = (start.wrapping_add(offset), last.checked_sub(1));
 }
 
+/// A place of picks is the one after the last, after the end of them the first. A word that is none stands for itself.
+fn place_word(last: u64, places: u64) -> u64 {
+    if last < places {
+        (last + 1) % places
+    } else {
+        last
+    }
+}
+
+fn walk_place(walk: &mut impl Walk, last: &mut u64, places: u64, kind: Kind) {
+    let mut next = place_word(*last, places);
+    walk.word(&mut next, kind);
+    *last = if next < places { (next + places - 1) % places } else { next };
+}
+
+fn walk_picks(walk: &mut impl Walk, cell: &mut Cell) {
+    walk.word(&mut cell.ready, Kind::ReadyBins);
+    walk_place(walk, &mut cell.picked, cell.bins.len() as u64, Kind::NextBin);
+}
+
 fn walk_cell(walk: &mut impl Walk, cell: &mut Cell, start: u64) {
     walk.word(&mut cell.held.occupied, Kind::Flag);
     walk.word(&mut cell.held.command, Kind::Command);
@@ -73,6 +99,7 @@ fn walk_cell(walk: &mut impl Walk, cell: &mut Cell, start: u64) {
     walk.word(&mut cell.open_stamp, Kind::Stamp);
     walk.word(&mut cell.held.stamp, Kind::Stamp);
     walk_block(walk, cell, start);
+    walk_picks(walk, cell);
     walk_row(walk, &mut cell.open, OPEN_LIMIT);
     walk_row(walk, &mut cell.held.row, OPEN_LIMIT);
     for loss in &mut cell.losses {
@@ -92,6 +119,7 @@ fn walk_run(walk: &mut impl Walk, run: &mut Run) {
     for cell in &mut run.cells {
         walk_cell(walk, cell, run.shape.start);
     }
+    walk_place(walk, &mut run.served, run.shape.cells, Kind::NextCell);
 }
 
 struct Store(Vec<u64>);
@@ -143,7 +171,18 @@ pub fn words(run: &mut Run) -> Vec<u64> {
 
 /// Where the words of a cell's current block and last command begin, and what they are in a run.
 pub fn block_of(run: &Run, cell: usize) -> (usize, [u64; 2]) {
-    (1 + cell * cell_words(&run.shape) + 6, block_words(&run.cells[cell], run.shape.start))
+    (cell_at(&run.shape, cell) + 6, block_words(&run.cells[cell], run.shape.start))
+}
+
+/// Where the words of a cell's number of Ready bins and of its place of picks begin, and what they are in a run.
+pub fn picks_of(run: &Run, cell: usize) -> (usize, [u64; 2]) {
+    let &Cell { ready, picked, ref bins, .. } = &run.cells[cell];
+    (cell_at(&run.shape, cell) + 8, [ready, place_word(picked, bins.len() as u64)])
+}
+
+/// The word of the run's place of picks, and what it is in a run.
+pub fn next_cell_of(run: &Run) -> (usize, u64) {
+    (cell_at(&run.shape, run.cells.len()), place_word(run.served, run.shape.cells))
 }
 
 /// The run whose words these are.

@@ -127,7 +127,9 @@ fn a_wide_bin_with_real_ticks() {
         assert_eq!(three.perform(&Call::Integrate { cell: 0 }), Reply::Number(5));
     }
     three.compare();
-    three.perform(&Call::Emit { cell: 0, bank: 0, bin: 0, room: 50 });
+    // After 010 the bin is Ready, also after loss 5.
+    let picked = three.perform(&Call::Pick { room: 50 });
+    assert!(matches!(picked, Reply::Frame(_)), "{picked:?}");
     three.perform(&Call::Reading { cell: 0, lag: 1, loss: 5, room: [2, 3] });
     three.perform(&Call::Page { room: 287 });
     three.compare();

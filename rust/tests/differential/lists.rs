@@ -66,16 +66,19 @@ impl Pair {
         if self.generator.random.once_in(64) {
             self.refused_host(call, tally);
         }
-        let found = self.found(call);
+        let (found, places) = (self.found(call), self.places(call));
         let reply = perform(&self.numbers, &mut self.mem, call);
         let expected = self.model.perform(call, never);
         let shape = self.model.shape;
         assert_eq!(reply, expected, "{call:?} of {shape:?}");
-        self.compare_blocks(call);
+        self.compare_counters(call);
         tally.count(call, &reply);
         if let Some(found) = found {
             tally.count_step(&shape, &found, self.model.cells[found.cell].block, &reply);
             self.dumped[found.cell] = reply.clone();
+        }
+        if let (Some(places), Reply::Frame(_)) = (places, &reply) {
+            self.count_turns(places, tally);
         }
         reply
     }
@@ -91,12 +94,29 @@ impl Pair {
         Some(Found { cell, command, block, last, occupied, ticks, reply })
     }
 
-    /// The current block and the last command of each cell.
-    fn compare_blocks(&self, call: &Call) {
+    /// The cell last served and the bin last picked in each cell, ahead of a pick.
+    fn places(&self, call: &Call) -> Option<(u64, Vec<u64>)> {
+        let picked = || self.model.cells.iter().map(|cell| cell.picked).collect();
+        matches!(call, Call::Pick { .. }).then(|| (self.model.served, picked()))
+    }
+
+    /// What a pick took behind these places.
+    fn count_turns(&self, (served, picked): (u64, Vec<u64>), tally: &mut Tally) {
+        let Run { shape, served: cell, .. } = self.model;
+        tally.count_turn("cell", served, cell, shape.cells);
+        tally.count_turn("bin", picked[cell as usize], self.model.cell(cell).picked, 2 * shape.bins);
+    }
+
+    /// The run's place of picks, and of each cell the current block, the last command, the number of Ready bins and
+    /// the place of picks.
+    fn compare_counters(&self, call: &Call) {
+        let shape = self.model.shape;
+        let (at, expected) = layout::next_cell_of(&self.model);
+        assert_eq!(self.mem[at], expected, "place of {shape:?} after {call:?}");
         for cell in 0..self.model.cells.len() {
-            let (at, expected) = layout::block_of(&self.model, cell);
-            let shape = self.model.shape;
-            assert_eq!(self.mem[at..at + 2], expected, "cell {cell} of {shape:?} after {call:?}");
+            for (at, expected) in [layout::block_of(&self.model, cell), layout::picks_of(&self.model, cell)] {
+                assert_eq!(self.mem[at..at + 2], expected, "cell {cell} of {shape:?} after {call:?}");
+            }
         }
     }
 
@@ -133,9 +153,11 @@ fn ten_million_calls() {
     println!("  {LONG_LISTS} shapes, {words} words of memory compared");
     assert!(tally.total() >= 10_000_000);
     assert!(tally.times("dump", "a frame") >= 200_000);
+    assert!(tally.times("pick", "accepted") >= 100_000);
     check_outcomes(&tally);
     check_shapes(&shapes);
     tally.stepped(500);
+    tally.turned(500);
     tally.met("block", &["from the last of 256"]);
 }
 
@@ -159,6 +181,7 @@ fn check_outcomes(tally: &Tally) {
     tally.met("integrate", &["refusal 1", "refusal 2", "refusal 5", "refusal 8"]);
     tally.met("emit", &["accepted", "refusal 1", "refusal 2", "refusal 5", "refusal 7"]);
     tally.met("emit", &["refusal 9", "refusal 10"]);
+    tally.met("pick", &["accepted", "refusal 1", "refusal 2", "refusal 20", "refusal 10"]);
     tally.met("reading", &["accepted", "refusal 1", "refusal 2", "refusal 5"]);
     tally.met("reading", &["refusal 10", "refusal 12"]);
     tally.met("forecast", &["accepted", "refusal 1", "refusal 2", "refusal 5"]);
@@ -185,5 +208,7 @@ fn the_plain_machine_on_short_lists() {
     }
     tally.print("short lists, with the plain machine");
     tally.stepped(20);
+    tally.turned(20);
+    tally.met("pick", &["accepted", "refusal 20", "refusal 10"]);
     tally.met("page", &["accepted", "refusal 10"]);
 }

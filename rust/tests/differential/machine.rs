@@ -60,12 +60,16 @@ struct Cell {
     last: Option<u64>,
     /// State and place of each bin, bank 0 first.
     bins: Vec<(u64, Place)>,
+    /// Bank and data bin of the bin last picked.
+    picked: Option<(u64, u64)>,
     losses: [Set; 6],
 }
 
 pub struct Machine {
     shape: Shape,
     cells: Vec<Cell>,
+    /// The last cell served by a pick.
+    served: Option<u64>,
     /// The bytes of each accepted tick.
     ticks: Vec<Vec<u8>>,
 }
@@ -163,7 +167,7 @@ impl Machine {
     pub fn new(shape: Shape) -> Machine {
         let bins = vec![(FREE, Place::default()); 2 * shape.bins as usize];
         let cell = Cell { bins, block: shape.start, ..Cell::default() };
-        Machine { shape, cells: vec![cell; shape.cells as usize], ticks: Vec::new() }
+        Machine { shape, cells: vec![cell; shape.cells as usize], served: None, ticks: Vec::new() }
     }
 
     fn t(&self) -> u64 {
@@ -187,6 +191,8 @@ impl Machine {
                     Some(9)
                 }
             }
+            Call::Pick { .. } if self.turn().is_none() => Some(20),
+            Call::Pick { room } => (room < self.shape.frame_length()).then_some(10),
             Call::Reading { room, .. } => (room[0] < 2 || room[1] < 3).then_some(10),
             Call::Page { room } => (room < self.shape.page_length()).then_some(10),
             _ => None,
@@ -211,6 +217,7 @@ impl Machine {
             }
             Call::Integrate { cell } => Reply::Number(self.cells[cell as usize].integrate(shape.bins)),
             Call::Emit { cell, bank, bin, .. } => self.emit(cell, bank, bin),
+            Call::Pick { .. } => self.pick(),
             Call::Reading { cell, lag, loss, .. } => self.reading(cell, lag as usize, loss as usize),
             Call::Forecast { cell } => Reply::Number(524_288 - self.cells[cell as usize].open.set.members()),
             Call::Page { .. } => self.page(),
@@ -223,6 +230,31 @@ impl Machine {
         *state = FREE;
         let emitted = Place { set: take(&mut place.set), stamp: place.stamp };
         self.frame(frame::ACCUMULATOR, [cell, bank, bin], &emitted)
+    }
+
+    /// Cell, bank and data bin of every Ready bin.
+    fn ready(&self) -> impl Iterator<Item = [u64; 3]> + '_ {
+        let bins = self.shape.bins;
+        (0..).zip(&self.cells).flat_map(move |(cell, places)| {
+            let ready = (0..).zip(&places.bins).filter(|(_, (state, _))| *state == READY);
+            ready.map(move |(at, _)| [cell, at / bins, at % bins])
+        })
+    }
+
+    /// The Ready bin whose turn it is. The cells up to the last one served come behind the others, and in each cell
+    /// the bins up to the one last picked.
+    fn turn(&self) -> Option<[u64; 3]> {
+        self.ready().min_by_key(|&[cell, bank, bin]| {
+            let picked = self.cells[cell as usize].picked;
+            (Some(cell) <= self.served, cell, Some((bank, bin)) <= picked, bank, bin)
+        })
+    }
+
+    fn pick(&mut self) -> Reply {
+        let [cell, bank, bin] = self.turn().expect("a Ready bin");
+        self.served = Some(cell);
+        self.cells[cell as usize].picked = Some((bank, bin));
+        self.emit(cell, bank, bin)
     }
 
     /// A frame of this kind, with the numbers of the place's set and its stamp.
@@ -308,9 +340,13 @@ impl Machine {
                 stamp: place.stamp,
                 row: self.numbers(c, &place.set),
             };
+            let ready = cell.bins.iter().filter(|(state, _)| *state == READY).count();
+            let bins = self.shape.bins;
             signed::Cell {
                 block: cell.block,
                 last: cell.last,
+                ready: ready as u64,
+                picked: cell.picked.map_or(2 * bins - 1, |(bank, bin)| bank * bins + bin),
                 open_stamp: cell.open.stamp,
                 open: self.numbers(c, &cell.open.set),
                 held: self.summed_held(c),
@@ -320,7 +356,8 @@ impl Machine {
                 bins: cell.bins.iter().map(bin).collect(),
             }
         });
-        signed::Run { shape: self.shape, t: self.t(), cells: cells.collect() }
+        let served = self.served.unwrap_or(self.shape.cells - 1);
+        signed::Run { shape: self.shape, t: self.t(), served, cells: cells.collect() }
     }
 
     fn summed_held(&self, c: usize) -> signed::Held {

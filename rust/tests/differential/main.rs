@@ -1,11 +1,11 @@
-//! The engine beside models of document 01 with the requests up to 2026-06 that share no code with it.
+//! The engine beside models of document 01 with the requests up to 2026-07 that share no code with it.
 //!
 //! `machine` is their plain machine: sets of tick numbers, and every number worked out from the bytes of the
 //! ticks when it is asked for. `signed` keeps signed sums instead, which is fast enough for long lists; short lists
 //! hold it against the machine. `damage` says when work memory is refused by 11, `layout` which words a run has by
 //! docs/LAYOUT.md, `frame` what the calls on frames give, `page` how losses are printed. The tests are in `sizes`,
 //! `lists`, `validity`, `greatest`, `blocks`, `limits`, `forecast`, `pages`, `pages_refused`, `altered`, `speed`,
-//! `speed_refused`, `frames` and `earlier`.
+//! `speed_refused`, `picks`, `picks_refused`, `starvation`, `frames` and `earlier`.
 mod altered;
 mod blocks;
 mod call;
@@ -24,11 +24,14 @@ mod machine;
 mod page;
 mod pages;
 mod pages_refused;
+mod picks;
+mod picks_refused;
 mod random;
 mod rules;
 mod signed;
 mod sizes;
 mod speed;
 mod speed_refused;
+mod starvation;
 mod tally;
 mod validity;

@@ -120,10 +120,13 @@ fn six_together() {
 fn others_accept(shape: &Shape, mem: &mut [u64], cell: u64) {
     let samples = vec![0; 3 * shape.cells as usize];
     let dump = |command| Call::Dump { cell, command, bank: 0, phase: 0, room: shape.speed_length() };
+    let integrate = Call::Integrate { cell };
     let emit = Call::Emit { cell, bank: 0, bin: 0, room: shape.frame_length() };
+    let pick = Call::Pick { room: shape.frame_length() };
     let reading = |loss| Call::Reading { cell, lag: 0, loss, room: [2, 3] };
-    let moves = [Call::Tick { samples }, dump(0b011), dump(0b010), Call::Integrate { cell }, emit];
-    for call in moves.into_iter().chain([Call::Forecast { cell }]).chain((1..=6).map(reading)) {
+    let speed = [Call::Tick { samples }, dump(0b011)];
+    let moves = [dump(0b010), integrate.clone(), emit, dump(0b010), integrate, pick];
+    for call in speed.into_iter().chain(moves).chain([Call::Forecast { cell }]).chain((1..=6).map(reading)) {
         let reply = perform(&shape.numbers(), mem, &call);
         assert!(!matches!(reply, Reply::Refused(_)), "{call:?} of {shape:?}: {reply:?}");
     }

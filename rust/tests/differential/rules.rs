@@ -37,14 +37,18 @@ fn bad_shape(shape: &[u64]) -> bool {
         || second > 2_147_483_647
 }
 
-/// docs/LAYOUT.md's formulas: the words of a cell, and of a run.
-pub fn cell_words(shape: &Shape) -> usize {
+/// docs/LAYOUT.md's formulas: the words of a cell, where a cell starts, and the words of a run.
+fn cell_words(shape: &Shape) -> usize {
     let (n, b) = (shape.lags as usize, shape.bins as usize);
-    34 + 17 * n + 10 * b + 4 * b * n
+    36 + 17 * n + 10 * b + 4 * b * n
+}
+
+pub fn cell_at(shape: &Shape, cell: usize) -> usize {
+    1 + cell * cell_words(shape)
 }
 
 pub fn words_needed(shape: &Shape) -> usize {
-    1 + shape.cells as usize * cell_words(shape)
+    cell_at(shape, shape.cells as usize) + 1
 }
 
 /// What the host is told of the seven numbers and of the words lent, if anything: 1, then 2.
@@ -78,6 +82,6 @@ pub fn argument_refusal(shape: &Shape, call: &Call) -> Option<u32> {
         Call::Emit { bank, bin, .. } => (bank > 1 || bin >= shape.bins).then_some(7),
         Call::Reading { cell, .. } if no_cell(cell) => Some(5),
         Call::Reading { lag, loss, .. } => (lag >= shape.lags || !(1..=6).contains(&loss)).then_some(12),
-        Call::Page { .. } => None,
+        Call::Pick { .. } | Call::Page { .. } => None,
     }
 }

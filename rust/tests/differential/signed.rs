@@ -50,6 +50,10 @@ pub struct Cell {
     pub block: u64,
     /// The command of the latest dump that was accepted and not idle, if there was one; 001 for 011.
     pub last: Option<u64>,
+    /// How many bins are Ready.
+    pub ready: u64,
+    /// The bin last picked, bank 0's before bank 1's; at first the last of them, after which the first comes.
+    pub picked: u64,
     pub open_stamp: u64,
     pub open: Row,
     pub held: Held,
@@ -64,6 +68,8 @@ pub struct Cell {
 pub struct Run {
     pub shape: Shape,
     pub t: u64,
+    /// The cell last served by a pick; in a fresh run the last of them, after which the first comes.
+    pub served: u64,
     pub cells: Vec<Cell>,
 }
 
@@ -125,6 +131,8 @@ impl Cell {
         Cell {
             block: shape.start,
             last: None,
+            ready: 0,
+            picked: 2 * shape.bins - 1,
             open_stamp: 0,
             open: row.clone(),
             held: Held { row: row.clone(), ..Held::default() },
@@ -199,13 +207,24 @@ impl Cell {
             bin.row.take(&mut held.row);
         }
         bin.state = if held.command == LAST { READY } else { FILLING };
+        self.ready += u64::from(bin.state == READY);
         answer
     }
+
+    fn has_ready(&self) -> bool {
+        self.bins.iter().any(|bin| bin.state == READY)
+    }
+}
+
+/// So many places going round: from the one after the last on, and the last one at the end.
+fn after(last: u64, places: u64) -> impl Iterator<Item = u64> {
+    (1..=places).map(move |step| (last + step) % places)
 }
 
 impl Run {
     pub fn new(shape: Shape) -> Run {
-        Run { shape, t: 0, cells: vec![Cell::new(&shape); shape.cells as usize] }
+        let cells = vec![Cell::new(&shape); shape.cells as usize];
+        Run { shape, t: 0, served: shape.cells - 1, cells }
     }
 
     pub fn cell(&self, cell: u64) -> &Cell {
@@ -231,6 +250,8 @@ impl Run {
             Call::Integrate { cell } if self.cell(cell).held.occupied == 0 => Some(8),
             Call::Emit { cell, bank, bin, .. } if self.bin(cell, bank, bin).state != READY => Some(9),
             Call::Emit { room, .. } if room < self.shape.frame_length() => Some(10),
+            Call::Pick { .. } if !self.cells.iter().any(Cell::has_ready) => Some(20),
+            Call::Pick { room } if room < self.shape.frame_length() => Some(10),
             Call::Dump { command: SPEED, room, .. } if room < self.shape.speed_length() => Some(10),
             Call::Reading { room, .. } if room[0] < 2 || room[1] < 3 => Some(10),
             Call::Page { room } if room < self.shape.page_length() => Some(10),
@@ -257,6 +278,7 @@ impl Run {
             }
             Call::Integrate { cell } => Reply::Number(self.cells[cell as usize].integrate(shape.bins)),
             Call::Emit { cell, bank, bin, .. } => self.emit(cell, bank, bin),
+            Call::Pick { .. } => self.pick(),
             Call::Reading { cell, lag, loss, .. } => self.reading(cell, lag as usize, loss as usize),
             Call::Forecast { cell } => Reply::Number(OPEN_LIMIT - self.cell(cell).open.ticks),
             Call::Page { .. } => self.page(),
@@ -275,10 +297,22 @@ impl Run {
 
     fn emit(&mut self, cell: u64, bank: u64, data_bin: u64) -> Reply {
         let shape = self.shape;
+        self.cells[cell as usize].ready -= 1;
         let bin = &mut self.cells[cell as usize].bins[(bank * shape.bins + data_bin) as usize];
         let row = std::mem::replace(&mut bin.row, Row::empty(shape.lags));
         bin.state = FREE;
         Reply::Frame(frame::of_place(frame::ACCUMULATOR, &shape, [cell, bank, data_bin], bin.stamp, &row))
+    }
+
+    fn pick(&mut self) -> Reply {
+        let mut cells = after(self.served, self.shape.cells);
+        self.served = cells.find(|&cell| self.cell(cell).has_ready()).expect("a cell with a Ready bin");
+        let bins = self.shape.bins;
+        let cell = &mut self.cells[self.served as usize];
+        let ready = after(cell.picked, 2 * bins).find(|&place| cell.bins[place as usize].state == READY);
+        cell.picked = ready.expect("a Ready bin");
+        let place = cell.picked;
+        self.emit(self.served, place / bins, place % bins)
     }
 
     fn reading(&self, cell: u64, lag: usize, loss: usize) -> Reply {

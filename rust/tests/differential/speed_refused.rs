@@ -10,7 +10,7 @@ use crate::layout;
 use crate::lists::Pair;
 use crate::pages_refused::no_shape;
 use crate::random::Random;
-use crate::rules::{cell_words, IDLE, OPEN_LIMIT, RUN_LIMIT, SPEED};
+use crate::rules::{cell_at, IDLE, OPEN_LIMIT, RUN_LIMIT, SPEED};
 use crate::signed::Run;
 use crate::tally::Tally;
 
@@ -48,9 +48,10 @@ fn refused(run: &Run, mem: &[u64], cell: u64) -> bool {
 /// The words that a dump of the cell tests: t, flag, label, stamps, block and last command, and the eight rows of Open,
 /// Held and the losses.
 fn tested(shape: &Shape, cell: u64) -> BTreeSet<usize> {
-    let start = 1 + cell as usize * cell_words(shape);
-    let end = start + 8 + 8 * (3 + 2 * shape.lags as usize);
-    (start..end).chain([0]).collect()
+    let start = cell_at(shape, cell as usize);
+    let rows = start + 10;
+    let end = rows + 8 * (3 + 2 * shape.lags as usize);
+    (start..start + 8).chain(rows..end).chain([0]).collect()
 }
 
 /// The words whose values near their limits make dumps of the cell refused, in the midst of a list; and how many values
@@ -115,12 +116,12 @@ fn beside_full_losses() {
 /// Memory that a dump of cell 1 refuses by 11: t, the stamp of Open, the last command 011, and a sum of the last loss.
 fn damaged(shape: &Shape, way: usize) -> Vec<u64> {
     let mut mem = fresh(shape);
-    let start = 1 + cell_words(shape);
+    let start = cell_at(shape, 1);
     match way {
         0 => mem[0] = RUN_LIMIT + 1,
         1 => mem[start + 4] = 1,
         2 => mem[start + 7] = SPEED + 1,
-        _ => mem[start + 7 + 8 * (3 + 2 * shape.lags as usize)] = 1,
+        _ => mem[start + 9 + 8 * (3 + 2 * shape.lags as usize)] = 1,
     }
     mem
 }

@@ -8,9 +8,11 @@ pub struct Tally {
     counts: BTreeMap<(&'static str, String), u64>,
 }
 
-/// The names under which steps of blocks and what speed dumps found are counted, which are no calls of their own.
+/// The names under which steps of blocks, what speed dumps found and whose turn it was in picks are counted, which are
+/// no calls of their own.
 const STEP: &str = "block";
 const SENT: &str = "speed dump";
+const TURN: &str = "turn";
 
 /// A dump of one cell, and what it finds there.
 pub struct Found {
@@ -63,6 +65,7 @@ impl Call {
             Call::Dump { .. } => "dump",
             Call::Integrate { .. } => "integrate",
             Call::Emit { .. } => "emit",
+            Call::Pick { .. } => "pick",
             Call::Reading { .. } => "reading",
             Call::Forecast { .. } => "forecast",
             Call::Page { .. } => "page",
@@ -83,6 +86,19 @@ fn outcome(call: &Call, reply: &Reply) -> String {
         (Call::Dump { .. }, Reply::Frame(_)) => "a frame".to_string(),
         (Call::Tick { .. }, Reply::Number(1..)) => "held off".to_string(),
         _ => "accepted".to_string(),
+    }
+}
+
+/// The ways from the last of some places to the one that a pick took.
+const WAYS: [&str; 4] = ["the next", "others passed over", "round the end", "the last again"];
+
+fn way(last: u64, taken: u64, places: u64) -> &'static str {
+    let [next, over, round, again] = WAYS;
+    match taken {
+        _ if taken == last => again,
+        _ if taken == (last + 1) % places => next,
+        _ if taken > last => over,
+        _ => round,
     }
 }
 
@@ -107,9 +123,16 @@ impl Tally {
         }
     }
 
+    /// The cell that a pick took, or the bin in it: which of so many was the last one before.
+    pub fn count_turn(&mut self, what: &str, last: u64, taken: u64, places: u64) {
+        if places > 1 {
+            self.add(TURN, format!("{what}: {}", way(last, taken, places)));
+        }
+    }
+
     /// How many calls were counted.
     pub fn total(&self) -> u64 {
-        let calls = self.counts.iter().filter(|((name, _), _)| ![STEP, SENT].contains(name));
+        let calls = self.counts.iter().filter(|((name, _), _)| ![STEP, SENT, TURN].contains(name));
         calls.map(|(_, count)| count).sum()
     }
 
@@ -129,6 +152,14 @@ impl Tally {
 
     pub fn times(&self, name: &'static str, outcome: &str) -> u64 {
         self.counts.get(&(name, outcome.to_string())).copied().unwrap_or_default()
+    }
+
+    /// Picks have taken cells and bins so often in each way.
+    pub fn turned(&self, least: u64) {
+        for turn in ["cell", "bin"].into_iter().flat_map(|what| WAYS.map(|way| format!("{what}: {way}"))) {
+            let times = self.times(TURN, &turn);
+            assert!(times >= least, "{times} picks took so: {turn}");
+        }
     }
 
     /// Blocks have been stepped so often in each way: by each command as a cell's first, behind each other and from

@@ -99,6 +99,7 @@ pub fn perform(shape: &[u64], mem: &mut [u64], call: &[&str]) -> Answer {
             let (cell, bank, bin) = (number(cell)?, number(bank)?, number(bin)?);
             filled(number(room)?, |out| ffi::emit(shape, mem, cell, bank, bin, out))
         }
+        ["pick", room] => filled(number(room)?, |out| ffi::pick(shape, mem, out)),
         ["reading", "-", cell, lag, loss] => reading(shape, mem, number(cell)?, number(lag)?, number(loss)?),
         ["forecast", "-", cell] => {
             told(ffi::forecast(shape, mem, number(cell)?), |ticks| format!("0 {ticks} {ticks}"))

@@ -61,18 +61,18 @@ fn every_other_answer_is_seen() {
 }
 
 /// A part of the list, and another in its first place: heads, calls and arguments that are none, other validity bits,
-/// a dump that names a block or lends no buffer, a missing answer, buffers too short or long enough, lengths, a run
-/// that is not set up, lines that are missing or too many.
-const CHANGES: [(&str, &str); 23] = [
-    ("level 6\n", "level 5\n"),
+/// a dump that names a block or lends no buffer, a missing answer, buffers too short or long enough, an emission by
+/// name of the bin that a pick took, lengths, a run that is not set up, lines that are missing or too many.
+const CHANGES: [(&str, &str); 27] = [
+    ("level 7\n", "level 6\n"),
     ("shape 2 ", "shape 1 "),
     (" 100 1\n", " 100 2\n"),
     ("bound 6400\n", "bound 64\n"),
     ("setup = 0\n", ""),
     ("\ntick ", "\ntock "),
     ("\ntick ", "\ntick 0"),
-    ("\ntick 3958026aff03 = 0 0\n", "\ntick 3958036aff03 = 0 0\n"),
-    ("\ntick 86a307551f03 = 19\n", "\ntick 86a303551f03 = 19\n"),
+    ("\ntick bc2203b21f03 = 0 0\n", "\ntick bc2203b21f01 = 0 0\n"),
+    ("\ntick f64403b48b23 = 19\n", "\ntick f64403b48b03 = 19\n"),
     ("\nintegrate - ", "\nintegrate 0 "),
     (" 1 - 0 = 0 0\n", " 1 3 0 = 0 0\n"),
     (" 1 - 0 = 0 0\n", " 1 - - = 0 0\n"),
@@ -80,9 +80,13 @@ const CHANGES: [(&str, &str); 23] = [
     (" - 69 = 10\n", " - 70 = 10\n"),
     (" = 0 0\n", "\n"),
     (" 66 = 0 66 ", " 65 = 0 66 "),
+    ("\npick 73 = 0 66 ", "\npick 65 = 0 66 "),
+    ("\npick 1 = 10\n", "\npick 66 = 10\n"),
+    ("\npick 66 = 20\n", "\npick - 66 = 20\n"),
+    ("\npick 67 = 0 66 4c540200000000040100", "\nemit - 0 0 1 67 = 0 66 4c540200000000040100"),
     ("\npage 533 = 0 533 ", "\npage 532 = 0 533 "),
-    ("\npage 529 = 10\n", "\npage 533 = 10\n"),
-    ("\npage 529 = 10\n", "\npage - 529 = 10\n"),
+    ("\npage 532 = 10\n", "\npage 533 = 10\n"),
+    ("\npage 532 = 10\n", "\npage - 532 = 10\n"),
     (" 100 1 0 need = 1\n", " 100 1 99 need = 1\n"),
     (" 100 1 0 need = 1\n", " 100 1 need = 1\n"),
     ("\nend\n", "\n"),

@@ -10,7 +10,7 @@ use crate::words::number;
 use crate::LEVEL;
 
 /// The calls that change work memory where they are accepted.
-const WRITERS: [&str; 5] = ["setup", "tick", "dump", "integrate", "emit"];
+const WRITERS: [&str; 6] = ["setup", "tick", "dump", "integrate", "emit", "pick"];
 
 type Checked = Result<(), String>;
 

@@ -1,4 +1,4 @@
-//! A list of calls with their answers, worked out from document 01 and the requests up to 2026-06 apart from this
+//! A list of calls with their answers, worked out from document 01 and the requests up to 2026-07 apart from this
 //! project, through the C interface.
 //!
 //! A line is `CALL ARGS = ANSWER`: decimal numbers, hexadecimal buffers, `-` for no bytes and for an argument that
@@ -12,6 +12,7 @@
 //! dump - CELL COMMAND BANK PHASE - ROOM = 0 LOSS, or 0 LENGTH HEX for command 3
 //! integrate - CELL = 0 LOSS
 //! emit - CELL BANK BIN ROOM = 0 LENGTH HEX
+//! pick ROOM = 0 LENGTH HEX
 //! reading - CELL LAG LOSS = 0 I Q TICKS EDGE CENTRE
 //! forecast - CELL = 0 LOW HIGH                 both are the answer
 //! page ROOM = 0 LENGTH HEX
@@ -34,27 +35,28 @@ mod words;
 
 use std::collections::BTreeMap;
 
-const LIST: &str = include_str!("level-06.txt");
-const LEVEL: u32 = 6;
+const LIST: &str = include_str!("level-07.txt");
+const LEVEL: u32 = 7;
 
 /// How many lines of each kind the list has.
-const LINES: [(&str, usize); 16] = [
-    ("@", 15),
+const LINES: [(&str, usize); 17] = [
+    ("@", 12),
     ("bound", 1),
-    ("dump", 146),
-    ("emit", 19),
+    ("dump", 113),
+    ("emit", 31),
     ("end", 1),
-    ("forecast", 24),
-    ("integrate", 157),
+    ("forecast", 19),
+    ("integrate", 145),
     ("level", 1),
-    ("norm", 5),
-    ("page", 7),
-    ("part", 5),
-    ("read", 5),
+    ("norm", 6),
+    ("page", 6),
+    ("part", 6),
+    ("pick", 44),
+    ("read", 6),
     ("reading", 50),
-    ("setup", 1),
+    ("setup", 2),
     ("shape", 1),
-    ("tick", 134),
+    ("tick", 129),
 ];
 
 #[test]

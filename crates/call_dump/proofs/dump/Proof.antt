@@ -12,6 +12,7 @@ use Rattle.lta_spec.specs.Step.{verdict, step, sends, dumpsBy, accepted}
 use Rattle.lta_spec.specs.declared.Verdict.the-variants.{Accepted}
 use Rattle.call_run.proofs.RunLaws.{shape-is}
 use Rattle.call_run.proofs.StepLaws.{done}
+use Rattle.cell_layout.specs.Cells.{withCounter}
 use Rattle.call_run.proofs.LoanLaws.{loan-is, loan-moved}
 use Rattle.call_dump.specs.Dumping.{countedBy, dumpedBy, placedBy}
 use Rattle.call_dump.proofs.Shown as shown
@@ -147,7 +148,7 @@ returns-3 c =
     loan-moved (shows x .cell) (w .before .cell-start .ensures .is) (w .cell-words .ensures .0)
     (dump (a .cell) (a .command) (a .bank) (a .phase) (now (a .out))) (now (a .out))
     (placedBy (s .lags) (s .blocks) (t .time-of .result) (a .command) (a .bank) (a .phase))
-    (countedBy (s .blocks) (a .command)) _ _
+    (λ u. withCounter u (countedBy (s .blocks) (a .command) u)) _ _
     (accepting x) (rw (t .time-of .ensures, ne-eqb (a .command) speed (i .if1 .left)) refl)
     (c .before .before .dump-unit .ensures)
 

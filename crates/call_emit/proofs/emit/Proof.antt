@@ -3,12 +3,14 @@ use mathlib.Core.Path.{_≡_, refl, sym, ap, _∙_}
 use denote.Ref.{now}
 use Rattle.lta_spec.specs.Call.Call.{emit}
 use Rattle.lta_spec.specs.Answer.Answer.{number}
-use Rattle.lta_spec.specs.Step.{verdict, step, withCell, sends, accepted}
+use Rattle.lta_spec.specs.Step.{verdict, step, emits, sends, accepted}
 use Rattle.lta_spec.specs.declared.Verdict.the-variants.{Accepted}
+use Rattle.lta_spec.proofs.MemoryLaws.{run-law}
+use Rattle.cell_layout.proofs.LaysLaws.{lays-put}
 use Rattle.call_run.proofs.RunLaws.{shape-is}
 use Rattle.call_emit.specs.Emission.{EmitsFrom}
 use Rattle.call_run.proofs.StepLaws.{done}
-use Rattle.call_emit.proofs.EmitLaws.{emits}
+use Rattle.call_emit.proofs.EmitLaws as laws
 use borrow.Author.Needs.{needs}
 use Rattle.call_emit.proofs.emit.Statement.{statement}
 use Rattle.call_emit.proofs.emit.Tie as tie
@@ -31,18 +33,14 @@ shown : (c : tie.After-enum-told) → let a = c .before .before .before .before 
     EmitsFrom (a .s) (now (a .mem)) (a .cell) (a .bank) (a .bin) (now (a .out))
 shown c =
     let a = c .before .before .before .before .before .before .before .args in
-    emits (a .s) (now (a .mem)) (a .cell) (a .bank) (a .bin) (now (a .out)) (accepting c)
+    laws.emits (a .s) (now (a .mem)) (a .cell) (a .bank) (a .bin) (now (a .out)) (accepting c)
 
-frame-from-requires : tie.Need-frame-from-requires
-frame-from-requires c κs = shown (c .before .before)
-
-free-bin-requires : tie.Need-free-bin-requires
-free-bin-requires c κs =
-    let q = shown (c .before .before .before .before .before .before) in (q .cell, q .named)
+emit-bin-requires : tie.Need-emit-bin-requires
+emit-bin-requires c κs = shown (c .before .before)
 
 frame-length-requires : tie.Need-frame-length-requires
 frame-length-requires c κs =
-    let x = c .before .before .before .before .before .before .before .before .before in
+    let x = c .before .before .before .before .before .before .before in
     let a = x .before .before .before .before .before .before .before .args in
     shape-is (a .s) (now (a .mem)) (shown x .cell .hosted) .lags
 
@@ -63,16 +61,14 @@ same-length-4 : tie.Need-same-length-4
 same-length-4 c = search needs
 
 returns-2 : tie.Need-returns-2
-unfolding accepted sends withCell
+unfolding accepted emits sends
 returns-2 c =
-    let x = c .before .before .before .before .before .before .before .before .before .before in
+    let x = c .before .before .before .before .before .before .before .before in
     let a = x .before .before .before .before .before .before .before .args in
+    let sent = c .before .before .before .before .before .emit-bin .ensures in
     rw (done (a .s) (now (a .mem)) (emit (a .cell) (a .bank) (a .bin) (now (a .out))) (accepting x)) (
       ap number (c .frame-length .ensures),
-      (
-        c .before .before .before .before .before .before .before .frame-from .ensures,
-        c .before .before .before .free-bin .ensures,
-      ),
+      (sent .0, lays-put (run-law (a .s)) (sent .1)),
     )
 
 pub emit-spec : {M : Type 1} → statement M
@@ -82,8 +78,7 @@ emit-spec =
     emit-verdict-requires
     enum-known-r
     enum-told
-    frame-from-requires
-    free-bin-requires
+    emit-bin-requires
     frame-length-requires
     same-length
     same-length-2

@@ -1,11 +1,11 @@
 -- `call_emit_tests::bin_verdict` meets its contract.
-use mathlib.Core.Path.{_≡_, refl, ap, _∙_}
-use mathlib.Core.Bool.{Bool}
+use mathlib.Core.Path.{_≡_, refl, ap, ap₂, _∙_}
+use mathlib.Core.Bool.{Bool, _&&_}
 use Prim.Native.Nat.{ℕ}
 use lib.Dec.{leb, eqb}
 use lib.ListN.{getD}
 use denote.Ref.{now}
-use Rattle.lta_spec.specs.Damage.{emitSound}
+use Rattle.lta_spec.specs.Damage.{emitUnitSound}
 use Rattle.lta_spec.specs.Place.{ready}
 use Rattle.lta_spec.specs.Call.{binIndex}
 use Rattle.lta_spec.specs.Engine.{Unit, binAt}
@@ -36,6 +36,9 @@ bin-number-requires c κs =
 bin-ok-requires : tie.Need-bin-ok-requires
 bin-ok-requires c κs = search needs
 
+number-fits-requires : tie.Need-number-fits-requires
+number-fits-requires c κs = search needs
+
 bin-start-requires : tie.Need-bin-start-requires
 bin-start-requires c κs = search needs
 
@@ -58,27 +61,31 @@ sound-tested-requires : tie.Need-sound-tested-requires
 sound-tested-requires c κs = search needs
 
 -- the bin's state
-state : (c : tie.After-bin-start) → let a = c .before .before .before .before .before .before .args in
+state : (c : tie.After-bin-start) → let a = c .before .before .before .before .before .before .before .args in
     let k = binIndex (a .s .bins) (a .bank) (a .bin) in
-    getD (now (c .before .before .before .cell-part .result)) (c .bin-start .result) 0
+    getD (now (c .before .before .before .before .cell-part .result)) (c .bin-start .result) 0
     ≡ (binAt (a .s .lags) k (cellAt (a .s) (a .c) (runOf (a .s) (now (a .mem))))) .state
 state c =
-    let a = c .before .before .before .before .before .before .args in
-    let p = c .before .before .before .cell-part .ensures in
-    let k = c .before .before .bin-number .ensures in
+    let a = c .before .before .before .before .before .before .before .args in
+    let p = c .before .before .before .before .cell-part .ensures in
+    let k = c .before .before .before .bin-number .ensures in
     rw (c .bin-start .ensures .is, ← k .is)
     (word-of (laid (p .fits)) (binState (a .s .lags) (a .s .bins) _ (k .below))
-    ∙ ap (λ u. (binAt (a .s .lags) (c .before .before .bin-number .result) (u .cell)) .state) (p .unit))
+    ∙ ap (λ u. (binAt (a .s .lags) (c .before .before .before .bin-number .result) (u .cell)) .state) (p .unit))
 
 returns : tie.Need-returns
+unfolding emitUnitSound
 returns c =
     let x = c .before .before .before .before .before in
-    let a = x .before .before .before .before .before .before .args in
+    let b = x .before .before .before in
+    let a = b .before .before .before .before .args in
     let k = binIndex (a .s .bins) (a .bank) (a .bin) in
-    let f : ℕ → Unit → Bool = λ t u. emitSound (a .s .lags) t k (u .cell) in
-    let parts = rw (x .before .before .bin-number .ensures .is) at (x .before .bin-ok .ensures) in
-    let t = x .before .before .before .before .time-of .ensures in
-    let sound = cell-sound (x .before .before .before .cell-part .ensures) f t parts in
+    let f : ℕ → Unit → Bool = λ t u. emitUnitSound (a .s .lags) (a .s .bins) t k u in
+    let parts =
+    rw (b .bin-number .ensures .is) at
+    (ap₂ _&&_ (x .before .before .bin-ok .ensures) (x .before .number-fits .ensures)) in
+    let t = b .before .before .time-of .ensures in
+    let sound = cell-sound (b .before .cell-part .ensures) f t parts in
     let room = ap (λ i. leb i (a .room)) (c .before .before .before .frame-length .ensures) in
     tested-as Damaged (c .sound-tested .ensures) sound
     (tested-as NotReady (c .before .tested2 .ensures) (ap (λ i. eqb i ready) (state x))
@@ -92,6 +99,7 @@ bin-verdict-spec =
     cell-part-requires
     bin-number-requires
     bin-ok-requires
+    number-fits-requires
     bin-start-requires
     mul-ready
     shared-slice-read-ready

@@ -1,13 +1,14 @@
 -- `call_integrate::integrate` meets its contract.
-use mathlib.Core.Path.{_≡_, refl, sym, _∙_}
+use mathlib.Core.Path.{_≡_, refl, sym, _∙_, subst}
 use mathlib.Core.Bool.{true}
 use mathlib.Core.List.{[]}
 use denote.Ref.{now}
-use Rattle.lta_spec.specs.Damage.{integrateSound}
+use Rattle.lta_spec.specs.Damage.{integrateUnitSound}
 use Rattle.lta_spec.specs.Call.Call.{integrate}
 use Rattle.lta_spec.specs.Engine.{integrateCell}
-use Rattle.lta_spec.specs.Step.{withCell, verdict, step, accepted}
+use Rattle.lta_spec.specs.Step.{verdict, step, accepted}
 use Rattle.lta_spec.specs.declared.Verdict.the-variants.{Accepted}
+use Rattle.cell_integrate.specs.Raises.{numbered}
 use Rattle.call_run.specs.Runs.{runOf}
 use Rattle.call_run.proofs.RunLaws.{shape-is}
 use Rattle.call_run.proofs.LoanLaws.{part-holds, loan-is, loan-moved}
@@ -48,20 +49,20 @@ cell-words-requires c κs =
 add-e : tie.Need-add-e
 add-e c = search needs
 
-mul-integrate-cell : tie.Need-mul-integrate-cell
-mul-integrate-cell c = search needs
+mul-integrate-unit : tie.Need-mul-integrate-unit
+mul-integrate-unit c = search needs
 
-sub-integrate-cell : tie.Need-sub-integrate-cell
-sub-integrate-cell c = search needs
+sub-integrate-unit : tie.Need-sub-integrate-unit
+sub-integrate-unit c = search needs
 
-part-integrate-cell-start : tie.Need-part-integrate-cell-start
-part-integrate-cell-start c = search needs
+part-integrate-unit-start : tie.Need-part-integrate-unit-start
+part-integrate-unit-start c = search needs
 
-part-integrate-cell-end : tie.Need-part-integrate-cell-end
-part-integrate-cell-end c = search needs
+part-integrate-unit-end : tie.Need-part-integrate-unit-end
+part-integrate-unit-end c = search needs
 
-integrate-cell-requires : tie.Need-integrate-cell-requires
-integrate-cell-requires c κs =
+integrate-unit-requires : tie.Need-integrate-unit-requires
+integrate-unit-requires c κs =
     let a = c .before .before .before .before .before .before .before .before .before .args in
     let q = shown (c .before .before .before .before) in
     let r = runOf (a .s) (now (a .mem)) in
@@ -71,7 +72,8 @@ integrate-cell-requires c κs =
       l .fits,
       record {
         t = r .t;
-        sound = part-holds l (λ p. integrateSound (a .s .lags) (a .s .bins) (r .t) p ≡ true) (q .sound);
+        sound =
+            subst (λ u. integrateUnitSound (a .s .lags) (a .s .bins) (r .t) u ≡ true) (sym (l .unit)) (q .sound);
         occupied = part-holds l (λ p. p .held .occupied ≡ 1) (q .occupied);
       },
     )
@@ -87,7 +89,7 @@ same-length-2 : tie.Need-same-length-2
 same-length-2 c = search needs
 
 returns-2 : tie.Need-returns-2
-unfolding accepted withCell
+unfolding accepted
 returns-2 c =
     let x = c .before .before .before .before .before .before in
     let a = x .before .before .before .before .before .before .args in
@@ -95,8 +97,8 @@ returns-2 c =
     let moved = loan-moved (q .cell)
     (c .before .before .before .before .before .cell-start .ensures .is)
     (c .before .before .before .before .cell-words .ensures .0) (integrate (a .cell)) []
-    (λ u. integrateCell (a .s .lags) (a .s .bins) (u .cell)) (λ u. u .counter) _ _
-    (accepting (x .before)) refl (c .before .before .integrate-cell .ensures) in
+    (λ u. integrateCell (a .s .lags) (a .s .bins) (u .cell)) (numbered (a .s .lags) (a .s .bins)) _ _
+    (accepting (x .before)) refl (c .before .before .integrate-unit .ensures) in
     (moved .0, moved .1 .1)
 
 pub integrate-spec : {M : Type 1} → statement M
@@ -109,11 +111,11 @@ integrate-spec =
     cell-start-requires
     cell-words-requires
     add-e
-    mul-integrate-cell
-    sub-integrate-cell
-    part-integrate-cell-start
-    part-integrate-cell-end
-    integrate-cell-requires
+    mul-integrate-unit
+    sub-integrate-unit
+    part-integrate-unit-start
+    part-integrate-unit-end
+    integrate-unit-requires
     same-length
     returns
     same-length-2

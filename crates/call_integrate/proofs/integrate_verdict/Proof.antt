@@ -4,7 +4,7 @@ use mathlib.Core.Bool.{Bool}
 use Prim.Native.Nat.{ℕ}
 use lib.Dec.{eqb}
 use Rattle.lta_spec.specs.Engine.{Unit}
-use Rattle.lta_spec.specs.Damage.{integrateSound}
+use Rattle.lta_spec.specs.Damage.{integrateUnitSound}
 use Rattle.lta_spec.specs.declared.Refusal.the-variants.{Damaged, NothingHeld}
 use Rattle.call_run.proofs.FirstLaws.{cell-refused, cell-passed}
 use Rattle.call_run.proofs.TestedLaws.{tested-as, cell-sound}
@@ -31,8 +31,8 @@ time-of-requires c κs = c .before .before .cell-verdict .ensures .cell (c .enum
 cell-part-requires : tie.Need-cell-part-requires
 cell-part-requires c κs = c .before .before .before .cell-verdict .ensures .cell (c .before .enum-told .given .1)
 
-integrate-sound-requires : tie.Need-integrate-sound-requires
-integrate-sound-requires c κs = search needs
+integrate-unit-sound-requires : tie.Need-integrate-unit-sound-requires
+integrate-unit-sound-requires c κs = search needs
 
 shared-slice-read-held : tie.Need-shared-slice-read-held
 shared-slice-read-held c = search needs
@@ -54,9 +54,9 @@ returns-2 c =
     let a = x .before .before .before .before .args in
     let p = c .before .before .before .before .cell-part .ensures in
     let flag = word-of (laid (p .fits)) (occupied _ _) ∙ ap (λ u. u .cell .held .occupied) (p .unit) in
-    let f : ℕ → Unit → Bool = λ t u. integrateSound (a .s .lags) (a .s .bins) t (u .cell) in
+    let f : ℕ → Unit → Bool = λ t u. integrateUnitSound (a .s .lags) (a .s .bins) t u in
     let t = c .before .before .before .before .before .time-of .ensures in
-    let sound = cell-sound p f t (c .before .before .before .integrate-sound .ensures) in
+    let sound = cell-sound p f t (c .before .before .before .integrate-unit-sound .ensures) in
     rw verdict-is
     (cell-passed _ _ _ _ (x .before .before .cell-verdict .ensures .is) (x .enum-told .given .1)
     (tested-as Damaged (c .sound-tested .ensures) sound
@@ -71,7 +71,7 @@ integrate-verdict-spec =
     enum-told
     time-of-requires
     cell-part-requires
-    integrate-sound-requires
+    integrate-unit-sound-requires
     shared-slice-read-held
     tested-requires
     sound-tested-requires

@@ -53,7 +53,7 @@ same-length-2 : tie.Need-same-length-2
 same-length-2 c = search needs
 
 returns : tie.Need-returns
-unfolding S.accepted S.dumpsBy S.sends S.withDump
+unfolding S.accepted S.dumpsBy S.sends S.withUnit
 returns c =
     let p = c .before .before .before .before in
     let w = p .before .before .before in

@@ -82,7 +82,9 @@ returns-2 c =
     let leaves = lays-put (run-law (a .s)) (lays-set (ticked .1) (time (a .s)) (t .result + 1)) in
     rw (done (a .s) (now (a .mem)) (tick samples) (accepting (c .before .before .before .before .before .before))) (
       ap number (ticked .0),
-      leaves ∙ ap (λ v. (runL (a .s)) .put (record { t = v; units = tickUnits (a .s) samples (r .units) })) next,
+      leaves
+          ∙ ap (λ v. (runL (a .s)) .put (record { t = v; next = r .next; units = tickUnits (a .s) samples (r .units) }))
+          next,
     )
 
 pub tick-spec : {M : Type 1} → statement M

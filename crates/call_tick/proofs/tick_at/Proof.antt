@@ -8,6 +8,7 @@ use Rattle.cell_layout.proofs.LaysLaws.{lays-to}
 use Rattle.call_run.specs.Runs.{runOf, CellPart}
 use Rattle.call_run.proofs.RunLaws.{shape-is}
 use Rattle.call_run.proofs.LoanLaws.{loan, loan-is, loan-unit}
+use Rattle.lta_spec.specs.Step.{withUnit}
 use borrow.Author.Needs.{needs}
 use Rattle.call_tick.proofs.tick_at.Statement.{statement}
 use Rattle.call_tick.proofs.tick_at.Tie as tie
@@ -58,6 +59,7 @@ same-length : tie.Need-same-length
 same-length c = search needs
 
 returns : tie.Need-returns
+unfolding withUnit
 returns c =
     let y = c .before .before .before .before in
     let x = y .before .before .before .before in

@@ -118,7 +118,7 @@ returns c =
     let e : y .loop .c ≡ length (r .units) = omega (arith, units-length (a .s) (now (a .mem)) (x .pre .0)) in
     let all = ticked-all (a .s) (now (a .samples)) (r .units) in (
       y .loop .inv .2 ∙ ap (heldOff (a .s)) (take-all (y .loop .c) (r .units) (omega (arith, e))),
-      lays-to (y .loop .inv .1) (rw e (ap (λ us. record { t = r .t; units = us }) all)),
+      lays-to (y .loop .inv .1) (rw e (ap (λ us. record { t = r .t; next = r .next; units = us }) all)),
     )
 
 pub tick-cells-spec : {M : Type 1} → statement M

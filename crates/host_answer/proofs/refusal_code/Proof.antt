@@ -68,6 +68,9 @@ enum-told-18 c = search needs
 enum-told-19 : tie.Need-enum-told-19
 enum-told-19 c = search needs
 
+enum-told-20 : tie.Need-enum-told-20
+enum-told-20 c = search needs
+
 returns : tie.Need-returns
 returns c = search told
 
@@ -125,6 +128,9 @@ returns-18 c = search told
 returns-19 : tie.Need-returns-19
 returns-19 c = search told
 
+returns-20 : tie.Need-returns-20
+returns-20 c = search told
+
 pub refusal-code-spec : {M : Type 1} → statement M
 refusal-code-spec =
     tie.close
@@ -148,6 +154,7 @@ refusal-code-spec =
     enum-told-17
     enum-told-18
     enum-told-19
+    enum-told-20
     returns
     returns-2
     returns-3
@@ -166,4 +173,5 @@ refusal-code-spec =
     returns-16
     returns-17
     returns-18
-    returns-19)
+    returns-19
+    returns-20)

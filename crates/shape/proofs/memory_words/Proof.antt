@@ -23,7 +23,7 @@ add-result c = omega (arith, few c)
 
 returns : tie.Need-returns
 unfolding memoryWords
-returns c = let s = c .before .args .s in (ap (λ k. 1 + s .cells * k) (c .cell-words .ensures .0), omega (arith, few c))
+returns c = let s = c .before .args .s in (ap (λ k. 2 + s .cells * k) (c .cell-words .ensures .0), omega (arith, few c))
 
 pub memory-words-spec : {M : Type 1} → statement M
 memory-words-spec = tie.close (tie.spec cell-words-requires mul-result add-result returns)

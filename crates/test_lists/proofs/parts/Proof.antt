@@ -10,7 +10,7 @@ abbrev Inv-loop : tie.InvT-loop
 Inv-loop mem₀ m₀ p₀ mem m p = (length mem ≡ length mem₀) × (length m ≡ length m₀)
 
 abbrev μ-loop : tie.MeasureT-loop
-μ-loop mem₀ m₀ p₀ mem m p = 12 - p
+μ-loop mem₀ m₀ p₀ mem m p = 16 - p
 
 loop-holds : tie.Need-loop-holds Inv-loop μ-loop
 loop-holds c = search needs

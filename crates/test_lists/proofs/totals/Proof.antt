@@ -8,7 +8,7 @@ abbrev Inv-loop : tie.InvT-loop
 Inv-loop m kind₀ t3 t4 kind = Unit {0}
 
 abbrev μ-loop : tie.MeasureT-loop
-μ-loop m kind₀ t3 t4 kind = 9 - kind
+μ-loop m kind₀ t3 t4 kind = 10 - kind
 
 loop-holds : tie.Need-loop-holds Inv-loop μ-loop
 loop-holds c = search needs

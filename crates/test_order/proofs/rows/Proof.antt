@@ -5,16 +5,19 @@ use Rattle.test_order.proofs.rows.Statement.{statement}
 use Rattle.test_order.proofs.rows.Tie as tie
 
 abbrev Inv-loop : tie.InvT-loop
-Inv-loop t₀ i₀ t i = Unit {0}
+Inv-loop g end t₀ i₀ t i = Unit {0}
 
 abbrev μ-loop : tie.MeasureT-loop
-μ-loop t₀ i₀ t i = 1536 - i
+μ-loop g end t₀ i₀ t i = end - i
+
+pick-requires : tie.Need-pick-requires Inv-loop μ-loop
+pick-requires c κs = search needs
 
 loop-holds : tie.Need-loop-holds Inv-loop μ-loop
 loop-holds c = search needs
 
-refusals-requires : tie.Need-refusals-requires Inv-loop μ-loop
-refusals-requires c κs = search needs
+one-requires : tie.Need-one-requires Inv-loop μ-loop
+one-requires c κs = search needs
 
 add-i : tie.Need-add-i Inv-loop μ-loop
 add-i c = search needs
@@ -34,8 +37,9 @@ rows-spec =
     (tie.spec
     Inv-loop
     μ-loop
+    pick-requires
     loop-holds
-    refusals-requires
+    one-requires
     add-i
     loop-less
     loop-again

@@ -5,19 +5,13 @@ use Rattle.test_lib_after.proofs.after.right.Statement.{statement}
 use Rattle.test_lib_after.proofs.after.right.Tie as tie
 
 abbrev Inv-loop : tie.InvT-loop
-Inv-loop mem old n b m cells k answer t ok₀ c₀ ok c = Unit {0}
+Inv-loop mem old n b m cells k answer ok₀ c₀ ok c = Unit {0}
 
 abbrev μ-loop : tie.MeasureT-loop
-μ-loop mem old n b m cells k answer t ok₀ c₀ ok c = cells - c
+μ-loop mem old n b m cells k answer ok₀ c₀ ok c = cells - c
 
-get-requires : tie.Need-get-requires Inv-loop μ-loop
-get-requires c κs = search needs
-
-wrapping-add-u64-requires : tie.Need-wrapping-add-u64-requires Inv-loop μ-loop
-wrapping-add-u64-requires c κs = search needs
-
-get-requires-2 : tie.Need-get-requires-2 Inv-loop μ-loop
-get-requires-2 c κs = search needs
+run-right-requires : tie.Need-run-right-requires Inv-loop μ-loop
+run-right-requires c κs = search needs
 
 loop-holds : tie.Need-loop-holds Inv-loop μ-loop
 loop-holds c = search needs
@@ -43,9 +37,7 @@ right-spec =
     (tie.spec
     Inv-loop
     μ-loop
-    get-requires
-    wrapping-add-u64-requires
-    get-requires-2
+    run-right-requires
     loop-holds
     cell-right-requires
     add-c

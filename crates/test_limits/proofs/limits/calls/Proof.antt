@@ -8,7 +8,7 @@ abbrev Inv-loop : tie.InvT-loop
 Inv-loop t s sum₀ kind₀ sum kind = Unit {0}
 
 abbrev μ-loop : tie.MeasureT-loop
-μ-loop t s sum₀ kind₀ sum kind = 7 - kind
+μ-loop t s sum₀ kind₀ sum kind = 8 - kind
 
 loop-holds : tie.Need-loop-holds Inv-loop μ-loop
 loop-holds c = search needs

@@ -1,0 +1,2 @@
+-- The laws of a pick.
+pub mod PickRunLaws

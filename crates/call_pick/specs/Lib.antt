@@ -1,0 +1,2 @@
+-- What the contracts of a pick cite.
+pub mod Picking

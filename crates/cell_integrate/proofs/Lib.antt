@@ -1,0 +1,2 @@
+-- The laws of an integration with its Ready number.
+pub mod RaiseLaws

@@ -1,0 +1,2 @@
+-- What the contracts of an integration with its Ready number cite.
+pub mod Raises

@@ -1,0 +1,2 @@
+-- The laws of a pick in one cell.
+pub mod PickCellLaws

@@ -1,0 +1,2 @@
+-- The laws of a Ready number.
+pub mod NumberLaws

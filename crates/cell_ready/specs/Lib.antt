@@ -1,0 +1,2 @@
+-- What the contracts of the functions on a Ready number cite.
+pub mod Taken
