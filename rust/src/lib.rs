@@ -4,7 +4,7 @@
 //! one whose turn it is ([`Run::pick`]). A [`Frame`] is what an emission or a speed dump gives, and what the reader
 //! accepts of bytes from elsewhere. What is not kept is told by readings, and in printed lines by a page
 //! ([`Run::page`]). A call that is refused gives a [`Refusal`] and changes nothing. What each call means is in
-//! document 01 with the requests up to 2026-07, whose terms are used here.
+//! document 01 with the requests up to 2026-08, whose terms are used here.
 //!
 //! The work is done by a static library that is proved to do it ([`ffi`] is its C interface over slices); this crate
 //! adds types and owns the memory. The library keeps nothing between calls, so that all of a run is its shape and its

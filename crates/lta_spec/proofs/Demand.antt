@@ -33,7 +33,7 @@ use Rattle.lta_spec.proofs.PickLaws.{place-after}
 use Rattle.lta_spec.proofs.Carry.{row, mapStamped, mapBin, mapCell, bin-carry, loss-carry}
 use Rattle.lta_spec.proofs.SameCell.{Same}
 use Rattle.lta_spec.proofs.SameRun.{unit-same}
-use Rattle.lta_spec.proofs.Follow.{follow, start-same, loaded, sized, turned}
+use Rattle.lta_spec.proofs.Follow.{start-same, sized, turned, from-start, read-behind}
 use Rattle.lta_spec.proofs.Clean.{never-eleven}
 use Rattle.lta_spec.proofs.Totals.{none-below, one-below, sums-add-up, sets-add-up}
 use Rattle.lta_spec.proofs.Frames.{list-framed}
@@ -134,11 +134,9 @@ on-run call (x ∷ xs) = (tt, on-run call xs)
 pub demand3 : (sh : Shape) → shapeOk sh ≡ true → (cs : List Listed) → AllStand cs → Demand3 sh cs
 demand3 sh ok cs stand =
     let k = shaped sh ok in
-    let fresh = start-same sh k in
-    let f = follow sh (k .some-lags) cs stand (W.start sh) (R.start sh) fresh in
+    let f = from-start sh k cs stand in
     let m = machineAfter sh cs in
-    let read : (runL sh) .get (memAfter sh cs) ≡ f .run =
-    ap ((runL sh) .get) (f .mem) ∙ loaded sh (f .run) m (f .same) in
+    let read : (runL sh) .get (memAfter sh cs) ≡ f .run = read-behind sh cs (W.start sh) (R.start sh) f in
     let at : (c : ℕ) → c < sh .cells → Same sh (m .t) (S.unitAt sh c (f .run)) (R.unitAt sh c m) =
     unit-same sh (f .run) m (f .same) in
     let returned : (c : ℕ) → List (List ℕ) = λ c. framesReturned c cs (engineReturns sh cs (freshMem sh)) in
@@ -147,7 +145,7 @@ demand3 sh ok cs stand =
     λ c h.
     ap (framesReturned c cs) (f .tells)
     ∙ sym (append-nil (framesReturned c cs (machineReturns sh cs (R.start sh))))
-    ∙ list-framed sh k cs stand (W.start sh) (R.start sh) fresh c h []
+    ∙ list-framed sh k cs stand (W.start sh) (R.start sh) (start-same sh k) c h []
     (λ gx gy. rw (none-sent sh (sh .cells) c)) [] [] in
     let back : (c : ℕ) → (h : c < sh .cells)
     → AllRead sh c ((R.unitAt sh c m) .xs) ((R.unitAt sh c m) .ys) (returned c) ((R.unitAt sh c m) .frames) =
@@ -178,7 +176,7 @@ demand3 sh ok cs stand =
           ap (λ z. map (rowSums k) (rows z) ++ map (readSums n k) (returned c))
           (ap (S.cellAt sh c) read ∙ at c h .cell [] [])
           ∙ places-read n (u .xs) (u .ys) k l u _
-          (sums-back sh ok c h (m .t) (f .same .limit) (u .xs) (u .ys) k l (returned c) (u .frames) (back c h)) in
+          (sums-back sh c (u .xs) (u .ys) k l (returned c) (u .frames) (back c h)) in
           subst (λ p. AddUp p (setSums n (u .xs) (u .ys) (ticksBelow (m .t)) k)) (sym parts)
           (sets-add-up n (u .xs) (u .ys) k (places u) (ticksBelow (m .t)) (at c h .good .once));
     }

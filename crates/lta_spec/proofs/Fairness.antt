@@ -17,7 +17,7 @@ use Rattle.lta_spec.specs.Fairness.{pickTold, picksIn, placesAhead, pick
 use Rattle.lta_spec.specs.declared.Shape.{Shape}
 use Rattle.lta_spec.proofs.ShapeLaws.{shaped, index-below}
 use Rattle.lta_spec.proofs.SameRun.{SameRun, unit-same}
-use Rattle.lta_spec.proofs.Follow.{Followed, follow, start-same}
+use Rattle.lta_spec.proofs.Follow.{Followed, follow, from-start}
 use Rattle.lta_spec.proofs.Demand.{demand3}
 use Rattle.lta_spec.proofs.PickLaws.{ahead-below}
 use Rattle.lta_spec.proofs.Holdoff.{told}
@@ -146,7 +146,7 @@ pub fairness : Fairness
 fairness sh ok before behind stand stand′ c bank bin inside inBank inBin is =
     let k = shaped sh ok in
     let wide = k .some-lags in
-    let x = follow sh wide before stand (W.start sh) (R.start sh) (start-same sh k) in
+    let x = from-start sh k before stand in
     let below = measure-below sh wide c bank bin inside inBank inBin (x .run) (machineAfter sh before) (x .same) in
     let state = sym (demand3 sh ok before stand .cells c inside .states (binIndex (sh .bins) bank bin)) ∙ is in
     let sooner = sent sh wide c bank bin inside inBank inBin before x behind stand′ state in

@@ -71,7 +71,7 @@ unit-ok sh t e m s =
           (length-map (m .cell .bins) _ ∙ f .bins, bins-ok n (m .xs) (m .ys) (m .cell .bins));
     }
 
-units-ok : (sh : Shape) (t : ℕ) (es : List E.Unit) (ms : List R.Unit) → AllSame sh t es ms
+pub units-ok : (sh : Shape) (t : ℕ) (es : List E.Unit) (ms : List R.Unit) → AllSame sh t es ms
     → All (UnitOk (sh .lags) (sh .bins)) es
 units-ok sh t [] [] a = tt
 units-ok sh t [] (m ∷ ms) a = absurd a
@@ -201,7 +201,7 @@ follow sh w (onOther shape call given ∷ cs) a e m s =
     }
 
 -- a fresh run
-map-replicate : {A B : Type 0} (f : A → B) (n : ℕ) (a : A) → map f (replicate n a) ≡ replicate n (f a)
+pub map-replicate : {A B : Type 0} (f : A → B) (n : ℕ) (a : A) → map f (replicate n a) ≡ replicate n (f a)
 map-replicate f zero a = refl
 map-replicate f (suc n) a = ap (λ r. f a ∷ r) (map-replicate f n a)
 
@@ -267,3 +267,11 @@ start-same sh is =
       next = refl;
       units = all-fresh sh is (sh .cells);
     }
+
+-- every list behind a setup, and work memory behind it, read back
+pub from-start : (sh : Shape) → Shaped sh → (cs : List Listed) → AllStand cs → Followed sh cs (W.start sh) (R.start sh)
+from-start sh is cs stand = follow sh (is .some-lags) cs stand (W.start sh) (R.start sh) (start-same sh is)
+
+pub read-behind : (sh : Shape) (cs : List Listed) (e : W.Run) (m : R.Run) (f : Followed sh cs e m)
+    → (runL sh) .get (engineMem sh cs ((runL sh) .put e)) ≡ f .run
+read-behind sh cs e m f = ap ((runL sh) .get) (f .mem) ∙ loaded sh (f .run) (machineRun sh cs m) (f .same)

@@ -34,7 +34,7 @@ use Rattle.lta_spec.proofs.TestLaws.{pass}
 use Rattle.lta_spec.proofs.ShapeLaws.{shaped}
 use Rattle.lta_spec.proofs.WordLaws.{over-append, over-map}
 use Rattle.lta_spec.proofs.SameRun.{SameRun, unit-same}
-use Rattle.lta_spec.proofs.Follow.{follow, start-same, run-same, accepts, turned}
+use Rattle.lta_spec.proofs.Follow.{follow, from-start, run-same, accepts, turned}
 use Rattle.lta_spec.proofs.Holdoff.{six, tick-open, tick-six, none-yet, tick-now, tick-earlier, tick-cell}
 use Rattle.lta_spec.proofs.Holdoff.{told, Kept, Ticked, Outcome, no-tick, step-does}
 use Rattle.lta_spec.proofs.Holdoff.Outcome.{keeps, ticks}
@@ -265,7 +265,7 @@ forecast-means sh ok before behind stand stand′ c n f none =
     let k = shaped sh ok in
     let wide = k .some-lags in
     let m = machineAfter sh before in
-    let x = follow sh wide before stand (W.start sh) (R.start sh) (start-same sh k) in
+    let x = from-start sh k before stand in
     let tells : engineReturns sh behind (memAfter sh before) ≡ machineReturns sh behind m =
     ap (engineReturns sh behind) (x .mem) ∙ follow sh wide behind stand′ (x .run) m (x .same) .tells in
     let p =

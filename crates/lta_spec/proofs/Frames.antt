@@ -52,11 +52,11 @@ abbrev pub Framed : Shape → (c : ℕ) → List (List ℕ) → R.Unit → Type 
 Framed sh c fs u = (gx gy : List Sample) → fs ≡ map (setFrame sh c (gx ++ u .xs) (gy ++ u .ys)) (u .frames)
 
 -- a frame's length
-lags-length : (n : ℕ) (xs ys : List Sample) (s : Ticks) (m k : ℕ) → length (lagSums n xs ys s m k) ≡ 2 * m
+pub lags-length : (n : ℕ) (xs ys : List Sample) (s : Ticks) (m k : ℕ) → length (lagSums n xs ys s m k) ≡ 2 * m
 lags-length n xs ys s zero k = refl
 lags-length n xs ys s (suc m) k = omega (arith, lags-length n xs ys s m (suc k))
 
-frame-length : (sh : Shape) (c : ℕ) (xs ys : List Sample) (e : Emitted)
+pub frame-length : (sh : Shape) (c : ℕ) (xs ys : List Sample) (e : Emitted)
     → length (setFrame sh c xs ys e) ≡ frameLength (e .kind) (sh .lags)
 unfolding setFrame emittedFields
 frame-length sh c xs ys e =

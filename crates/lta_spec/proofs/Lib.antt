@@ -1,6 +1,6 @@
--- What follows from the definitions of specs/: laws for the proofs of the other crates, and the ten statements of
--- specs/: Encoding, RoundTrip (in EmittedBack), Demand, Forecasts, LossPages, Fairness, Edges, SpeedRows, PickRows and
--- AnswerOrder.
+-- What follows from the definitions of specs/: laws for the proofs of the other crates, and the twelve statements of
+-- specs/: Encoding, RoundTrip (in EmittedBack), Demand, Forecasts, LossPages, Fairness, Exchange, Edges, SpeedRows,
+-- PickRows, ExchangeRows and AnswerOrder.
 pub mod WordLaws
 pub mod DecimalLaws
 pub mod TestLaws
@@ -46,8 +46,19 @@ pub mod Forecasts
 pub mod LossPages
 pub mod PickSteps
 pub mod Fairness
+pub mod TwoRuns
+pub mod ExchangeLaws
+pub mod ByteExchange
+pub mod Placement
+pub mod SamePlaces
+pub mod FrameAlike
+pub mod PageAlike
+pub mod ExchangeTold
+pub mod ExchangeSteps
+pub mod Exchange
 pub mod BlockRows
 pub mod Edges
 pub mod SpeedRows
 pub mod PickRows
+pub mod ExchangeRows
 pub mod AnswerOrder

@@ -46,7 +46,7 @@ use Rattle.lta_spec.proofs.PageLaws.{ledger-line-at, none-within, withi
 use Rattle.lta_spec.proofs.PageLaws.{rows-within}
 use Rattle.lta_spec.proofs.LedgerLaws.{counts-append}
 use Rattle.lta_spec.proofs.SameDone.{ledger-same}
-use Rattle.lta_spec.proofs.Follow.{Followed, follow, verdicts, loaded, start-same}
+use Rattle.lta_spec.proofs.Follow.{Followed, verdicts, from-start, read-behind}
 
 -- a number of a sum is the sum of the numbers
 number-sum : (q : Number) (ks : List Counts) → numberOf q (countsSum ks) ≡ overAll (numberOf q) ks
@@ -312,9 +312,7 @@ module _ (sh : Shape) (ok : shapeOk sh ≡ true) (cs : List Listed) (stand : All
   m = machineAfter sh cs
 
   followed : Followed sh cs (W.start sh) (R.start sh)
-  followed =
-      let k = shaped sh ok in
-      follow sh (k .some-lags) cs stand (W.start sh) (R.start sh) (start-same sh k)
+  followed = from-start sh (shaped sh ok) cs stand
 
   machine-accepts : R.verdict sh m (memoryWords sh) (page out) ≡ Accepted
   unfolding R.verdict hostTests pageLength
@@ -342,8 +340,7 @@ module _ (sh : Shape) (ok : shapeOk sh ≡ true) (cs : List Listed) (stand : All
       → numberShown (pageLeft sh (memAfter sh cs) out) q (6 * sh .cells) ≡ overLedger (sh .lags) q m
   shows-ledger q =
       let mem = memAfter sh cs in
-      let read : (runL sh) .get mem ≡ followed .run =
-      ap ((runL sh) .get) (followed .mem) ∙ loaded sh (followed .run) m (followed .same) in
+      let read : (runL sh) .get mem ≡ followed .run = read-behind sh cs (W.start sh) (R.start sh) followed in
       ap (λ z. numberShown z q (6 * sh .cells)) (left-is sh mem out accepts)
       ∙ total-shown sh mem out accepts q
       ∙ number-sum q (joined (S.ledgerCounts ((runL sh) .get mem)))

@@ -17,7 +17,6 @@ use Rattle.lta_spec.specs.Row.{rowOk}
 use Rattle.lta_spec.specs.Engine as E
 use Rattle.lta_spec.specs.Damage as D
 use Rattle.lta_spec.specs.Layout.{word, block, pair, many, fields}
-use Rattle.lta_spec.specs.Memory as W
 use Rattle.lta_spec.specs.Memory.{binL, unitL, runL}
 use Rattle.lta_spec.specs.Step as S
 use Rattle.lta_spec.specs.Demand.{AllStand, machineReturns, machineRun, machineAfter, engineReturns, placeAfter}
@@ -45,7 +44,7 @@ use Rattle.lta_spec.specs.PickRows.{
 }
 use Rattle.lta_spec.specs.declared.Shape.{Shape}
 use Rattle.lta_spec.proofs.ShapeLaws.{shaped}
-use Rattle.lta_spec.proofs.Follow.{follow, start-same}
+use Rattle.lta_spec.proofs.Follow.{follow, from-start}
 use Rattle.lta_spec.proofs.Demand.{on-run, demand3}
 
 stands : (ls : List PickLine) → AllStand (callsOf ls)
@@ -84,7 +83,7 @@ module _ (sh : Shape) (ok : shapeOk sh ≡ true) where
   picks-in before behind =
       let k = shaped sh ok in
       let wide = k .some-lags in
-      let x = follow sh wide (callsOf before) (stands before) (W.start sh) (R.start sh) (start-same sh k) in
+      let x = from-start sh k (callsOf before) (stands before) in
       ap (λ ts. length (inTurn pickTold (callsOf behind) ts))
       (ap (engineReturns sh (callsOf behind)) (x .mem)
       ∙ follow sh wide (callsOf behind) (stands behind) (x .run) (machineAfter sh (callsOf before)) (x .same) .tells)

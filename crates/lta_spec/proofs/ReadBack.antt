@@ -1,6 +1,6 @@
 -- The frames of the machine's sets, read back: the reader accepts each, and gives the set's numbers.
 use Prim.Native.Nat.{ℕ, zero, suc, _+_, _*_, _≤_, _<_}
-use mathlib.Core.Path.{_≡_, refl, sym, ap, _∙_}
+use mathlib.Core.Path.{_≡_, refl, sym, ap, ap₂, _∙_}
 use mathlib.Core.Bool.{true}
 use mathlib.Core.List.{List, [], _∷_, map}
 use native.Mathlib.Omega.{arith}
@@ -83,17 +83,21 @@ module _ (sh : Shape) (ok : shapeOk sh ≡ true) (c : ℕ) (hc : c < sh .cells) 
   all-back [] a = tt
   all-back (e ∷ es) a = (set-back e (a .0), all-back es (a .1))
 
-  -- the numbers of a frame read back are those of its set
+-- the numbers of a frame read back are those of its set
+module _ (sh : Shape) (c : ℕ) (xs ys : List Sample) where
+  pub sums-of : (k : ℕ) → k < sh .lags → (f : List ℕ) (e : Emitted) → ReadBack sh c xs ys f e
+      → readSums (sh .lags) k f ≡ setSums (sh .lags) xs ys (e .content .members) k
+  sums-of k h f e r =
+      let n = sh .lags in
+      let z = sums-at n xs ys (e .content .members) n 0 k k (omega arith) h in
+      let d : 2 * k + 1 ≡ suc (2 * k) = omega arith in
+      let g : fieldsOf (bodyOf f) ≡ sentFields sh c xs ys e =
+      fields-read (readVerdict n f) (fieldsOf (bodyOf f)) (sentFields sh c xs ys e) (r .returned) in
+      rw (g, r .lags, d, z .0, z .1)
+
   pub sums-back : (k : ℕ) → k < sh .lags → (fs : List (List ℕ)) (es : List Emitted) → AllRead sh c xs ys fs es
       → map (readSums (sh .lags) k) fs ≡ map (λ e. setSums (sh .lags) xs ys (e .content .members) k) es
   sums-back k h [] [] a = refl
   sums-back k h [] (e ∷ es) a = absurd a
   sums-back k h (f ∷ fs) [] a = absurd a
-  sums-back k h (f ∷ fs) (e ∷ es) a =
-      let n = sh .lags in
-      let r = a .0 in
-      let z = sums-at n xs ys (e .content .members) n 0 k k (omega arith) h in
-      let d : 2 * k + 1 ≡ suc (2 * k) = omega arith in
-      let g : fieldsOf (bodyOf f) ≡ sentFields sh c xs ys e =
-      fields-read (readVerdict n f) (fieldsOf (bodyOf f)) (sentFields sh c xs ys e) (r .returned) in
-      rw (g, r .lags, d, z .0, z .1, sums-back k h fs es (a .1))
+  sums-back k h (f ∷ fs) (e ∷ es) a = ap₂ (λ x r. x ∷ r) (sums-of k h f e (a .0)) (sums-back k h fs es (a .1))

@@ -1,7 +1,7 @@
 -- The row of a set of ticks: of none, of a join, of one tick; its columns and its limits; and the shift registers.
 use Prim.Native.Nat.{ℕ, zero, suc, _+_, _*_, _-_, _/_, _≤_, _<_}
 use mathlib.Core.Path.{_≡_, refl, sym, ap, ap₂, _∙_}
-use mathlib.Core.Bool.{Bool, true, false, _&&_}
+use mathlib.Core.Bool.{true, false}
 use mathlib.Core.List.{List, [], _∷_, _++_, map}
 use native.Mathlib.Nat.{add-assoc}
 use native.Mathlib.Omega.{arith}
@@ -18,7 +18,7 @@ use Rattle.lta_spec.specs.Row.{ticksOf, edgeOf, centreOf, emptyRow, bias
 use Rattle.lta_spec.specs.Row.{fromWord, entryOk}
 use Rattle.lta_spec.specs.Machine.{Ticks}
 use Rattle.lta_spec.specs.Numbers.{upTo}
-use Rattle.lta_spec.proofs.TestLaws.{bit-small, and-both, and-le, every-take}
+use Rattle.lta_spec.proofs.TestLaws.{bit-small, both, and-both, and-le, every-take}
 use Rattle.lta_spec.proofs.TickLaws.{Sampled, sample-small, inPhase-bound, quadrature-bound}
 use Rattle.lta_spec.proofs.TickLaws.{storedEntry, entry-ok, entry-is}
 
@@ -193,9 +193,6 @@ pub record Limited (t : ℕ) (row : List ℕ) : Type 0 where
   pub edge : edgeOf row ≤ t
   pub centre : centreOf row ≤ t
   pub lags : every (sumOk t) (drop 3 row) ≡ true
-
-both : {a b : Bool} → a ≡ true → b ≡ true → a && b ≡ true
-both p q = rw (p, q)
 
 every-sums : (s t w : ℕ) → s + t ≡ w → (a b : List ℕ) → every (sumOk s) a ≡ true → every (sumOk t) b ≡ true
     → every (sumOk w) (sums a b) ≡ true

@@ -75,6 +75,10 @@ ledger-sound sh t l e m s =
     ap D.pageSound (s .cell [] [])
     ∙ page-intact (sh .lags) (sh .bins) t (m .xs) (m .ys) (m .cell) (s .good .sound) (few _ t m (s .good)) l
 
+pub ledgers-sound : (sh : Shape) (t : ℕ) → t ≤ runLimit → (es : List E.Unit) (ms : List R.Unit) → AllSame sh t es ms
+    → D.ledgersSound es ≡ true
+ledgers-sound sh t l es ms a = every-same sh t _ (ledger-sound sh t l) es ms a
+
 pick-sound : (sh : Shape) (t : ℕ) → t ≤ runLimit → (e : E.Unit) (m : R.Unit) → Same sh t e m
     → D.pickSound (sh .bins) t e ≡ true
 unfolding D.pickSound
@@ -140,8 +144,7 @@ module _ (sh : Shape) (es : List E.Unit) (m : R.Run) (q : SameRun sh (engineOf s
       same-test (ltb c (sh .cells)) _ _ _
       (λ h. passing _ _ _ (forecast-passes sh es m q c h))
   verdict-same (page out) =
-      passing _ _ _
-      (both t-ok (every-same sh (m .t) _ (ledger-sound sh (m .t) (q .limit)) es (m .units) (q .units)))
+      passing _ _ _ (both t-ok (ledgers-sound sh (m .t) (q .limit) es (m .units) (q .units)))
   verdict-same (pick out) =
       rw (
         both t-ok

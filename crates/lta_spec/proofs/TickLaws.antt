@@ -40,9 +40,10 @@ pub weight-bound : (d : ℕ) → natAbs (weight d) ≤ 2
 unfolding weight
 weight-bound d = within-at 2 weights tt d
 
--- a sample is -8 to 7
+-- a sample is -8 to 7, a phase 0 to 15
 pub record Sampled (e : Entry) : Type 0 where
   pub small : natAbs (e .sample) ≤ 8
+  pub phase : e .phase < 16
 
 nibble-small : (n : ℕ) → n < 16 → natAbs (nibble n) ≤ 8
 nibble-small n h = by-test (ltb n 8) refl
@@ -53,7 +54,7 @@ nibble-small n h = by-test (ltb n 8) refl
 
 pub sample-small : (s : Sample) → Sampled (fromSample s)
 unfolding fromSample
-sample-small s = record { small = nibble-small (s .byte % 16) (omega arith) }
+sample-small s = record { small = nibble-small (s .byte % 16) (omega arith); phase = omega arith }
 
 product-bound : (x y : Entry) → Sampled x → Sampled y → natAbs (product x y) ≤ peak / 2
 unfolding product

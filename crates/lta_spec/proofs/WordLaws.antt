@@ -48,6 +48,17 @@ getD-splice-in (x ∷ l) zero (v ∷ vs) (suc i) h k =
     rw zero-add (rw zero-add at (getD-splice-in l zero vs i (omega arith) (omega arith)))
 getD-splice-in (x ∷ l) (suc at) vs i h k = rw suc-add (getD-splice-in l at vs i h (omega arith))
 
+-- words put in front of a list: a word of it is equal where theirs is
+pub splice-alike : (out vs ws : List ℕ) → length vs ≡ length ws → (j : ℕ)
+    → (j < length vs → getD vs j 0 ≡ getD ws j 0) → getD (splice out 0 vs) j 0 ≡ getD (splice out 0 ws) j 0
+splice-alike [] vs ws e j h = refl
+splice-alike (x ∷ out) [] [] e j h = refl
+splice-alike (x ∷ out) [] (w ∷ ws) e j h = absurd (omega arith)
+splice-alike (x ∷ out) (v ∷ vs) [] e j h = absurd (omega arith)
+splice-alike (x ∷ out) (v ∷ vs) (w ∷ ws) e zero h = h (omega arith)
+splice-alike (x ∷ out) (v ∷ vs) (w ∷ ws) e (suc j) h =
+    splice-alike out vs ws (omega arith) j (λ l. h (omega arith))
+
 -- a store at the end of what is spliced in, as a loop going up makes it
 pub set-splice-next : (l : List ℕ) (at : ℕ) (vs : List ℕ) (v : ℕ)
     → set (splice l at vs) (at + length vs) v ≡ splice l at (vs ++ v ∷ [])

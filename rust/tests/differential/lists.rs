@@ -29,6 +29,24 @@ pub struct Pair {
     dumped: Vec<Reply>,
 }
 
+/// A call with another shape or length of work memory, and a setup with them: both are refused and change nothing, nor
+/// the word behind the memory.
+pub fn refused_host(
+    mem: &mut Vec<u64>,
+    (numbers, length): &(Vec<u64>, usize),
+    spare: u64,
+    call: &Call,
+) -> Reply {
+    let expected = host_refusal(numbers, *length).expect("1 or 2");
+    mem.push(spare);
+    let reply = perform(numbers, &mut mem[..*length], call);
+    assert_eq!(reply, Reply::Refused(expected), "{call:?} with {numbers:?}, {length} words");
+    let setup = outcome(ffi::setup(numbers, &mut mem[..*length]));
+    assert_eq!(setup, Err(expected), "setup with {numbers:?}, {length} words");
+    assert_eq!(mem.pop(), Some(spare), "a word behind the memory");
+    reply
+}
+
 impl Pair {
     pub fn new(random: Random, shape: Shape) -> Pair {
         let mut model = Run::new(shape);
@@ -39,18 +57,11 @@ impl Pair {
         Pair { generator, numbers: shape.numbers(), mem, model, dumped }
     }
 
-    /// A call of the engine with another shape or length, which is refused and changes nothing.
+    /// A call of the engine with another shape or length, which is refused.
     fn refused_host(&mut self, call: &Call, tally: &mut Tally) {
-        let words = self.mem.len();
-        let (numbers, length) = self.generator.wrong_host(words);
-        let expected = host_refusal(&numbers, length).expect("1 or 2");
+        let host = self.generator.wrong_host(self.mem.len());
         let spare = self.generator.random.next();
-        self.mem.push(spare);
-        let reply = perform(&numbers, &mut self.mem[..length], call);
-        assert_eq!(reply, Reply::Refused(expected), "{call:?} with {numbers:?}, {length} words");
-        let setup = outcome(ffi::setup(&numbers, &mut self.mem[..length]));
-        assert_eq!(setup, Err(expected), "setup with {numbers:?}, {length} words");
-        assert_eq!(self.mem.pop(), Some(spare), "a word behind the memory");
+        let reply = refused_host(&mut self.mem, &host, spare, call);
         tally.count(call, &reply);
     }
 
@@ -173,7 +184,7 @@ fn check_shapes(shapes: &[Shape]) {
 }
 
 /// Everything has happened that can in a list without limits reached or memory altered.
-fn check_outcomes(tally: &Tally) {
+pub fn check_outcomes(tally: &Tally) {
     tally.met("tick", &["accepted", "refusal 1", "refusal 2", "refusal 3", "refusal 19"]);
     tally.met("dump", &["answer 0", "answer 1", "answer 2", "answer 7", "a frame", "a frame, room left"]);
     tally.met("dump", &["refusal 1", "refusal 2", "refusal 5", "refusal 6", "refusal 7", "refusal 10"]);
