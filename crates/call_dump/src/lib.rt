@@ -1,4 +1,6 @@
 // The dump of one cell: its block moves, and Open into Held, to a loss, or into a frame.
+#![tactic(auto)]
+
 ghost use Rattle.std.specs.Prelude.{◌≡◌, true, ◌&&◌, ◌<◌, ◌≤◌};
 ghost use Rattle.lta_spec.specs.Shape.{shape_ok};
 ghost use Rattle.lta_spec.specs.Answer.{moved_as};

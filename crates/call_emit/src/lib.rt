@@ -1,4 +1,6 @@
 // The emission of one bin: its frame into the buffer lent, the bin Free, and one Ready bin less.
+#![tactic(auto)]
+
 ghost use Rattle.std.specs.Prelude.{◌≡◌, ◌≤◌};
 ghost use Rattle.lta_spec.specs.Words.{splice};
 ghost use Rattle.lta_spec.specs.Answer.{written_as};

@@ -1,4 +1,6 @@
 // The forecast: the ticks that a cell may still take before it is held off.
+#![tactic(auto)]
+
 ghost use Rattle.std.specs.Prelude.{◌≡◌};
 ghost use Rattle.lta_spec.specs.Answer.{forecast_as};
 ghost use Rattle.lta_spec.specs.Call.Call.{forecast};

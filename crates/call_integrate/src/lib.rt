@@ -1,4 +1,6 @@
 // The integration of one cell: Held into its bin, or to a loss.
+#![tactic(auto)]
+
 ghost use Rattle.std.specs.Prelude.{◌≡◌};
 ghost use Rattle.lta_spec.specs.Answer.{moved_as};
 ghost use Rattle.lta_spec.specs.Call.Call.{integrate};

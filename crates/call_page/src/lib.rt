@@ -1,4 +1,6 @@
 // The loss page: the losses of every cell as lines of text in the buffer lent.
+#![tactic(auto)]
+
 ghost use Rattle.std.specs.Prelude.{◌≡◌, ◌≤◌, length};
 ghost use Rattle.lta_spec.specs.Words.{splice};
 ghost use Rattle.lta_spec.specs.Page.{page_length};

@@ -1,4 +1,6 @@
 // A pick: the emission of the bin whose turn it is, and the places of picks behind it.
+#![tactic(auto)]
+
 ghost use Rattle.std.specs.Prelude.{◌≡◌, ◌*◌, ◌<◌};
 ghost use Rattle.lta_spec.specs.Answer.{written_as};
 ghost use Rattle.lta_spec.specs.Call.Call.{pick};

@@ -1,4 +1,6 @@
 // The tests of a pick, and the cell that it takes.
+#![tactic(auto)]
+
 ghost use Rattle.std.specs.Prelude.{◌≡◌, ◌<◌};
 ghost use Rattle.lta_spec.specs.Refusals.{first_of};
 ghost use Rattle.lta_spec.specs.Call.Call.{pick};

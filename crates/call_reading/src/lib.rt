@@ -1,4 +1,6 @@
 // The reading of one loss of one cell.
+#![tactic(auto)]
+
 ghost use Rattle.std.specs.Prelude.{◌≡◌};
 ghost use Rattle.lta_spec.specs.Answer.{ledger_as};
 ghost use Rattle.lta_spec.specs.Call.Call.{reading};

@@ -1,5 +1,7 @@
 // What the calls on a run share: t, the run's place of picks and the words of a cell in work memory, and the first
 // tests.
+#![tactic(auto)]
+
 ghost use Rattle.std.specs.Prelude.{◌≡◌, cond, ◌&&◌, leb};
 ghost use Rattle.lta_spec.specs.Shape.{run_limit};
 ghost use Rattle.lta_spec.specs.declared.Refusal.TheVariants.{Damaged};

@@ -1,4 +1,6 @@
 // How many words a shape needs, and a fresh run in the work memory lent.
+#![tactic(auto)]
+
 ghost use Rattle.std.specs.Prelude.{◌≡◌};
 ghost use Rattle.lta_spec.specs.Answer.{needed_as, started_as};
 ghost use Rattle.lta_spec.specs.Step.{size_answer, setup_answer, setup_leaves};

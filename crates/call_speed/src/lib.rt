@@ -1,4 +1,6 @@
 // A speed dump that is not refused: the frame of Open into the buffer lent, and Open empty.
+#![tactic(auto)]
+
 ghost use Rattle.std.specs.Prelude.{◌≡◌};
 ghost use Rattle.lta_spec.specs.Words.{splice};
 ghost use Rattle.lta_spec.specs.Frame.{speed_frame};

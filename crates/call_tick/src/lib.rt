@@ -1,4 +1,6 @@
 // The tick of every cell.
+#![tactic(auto)]
+
 ghost use Rattle.std.specs.Prelude.{◌≡◌, true, ◌*◌, length};
 ghost use Rattle.lta_spec.specs.Answer.{ticked_as};
 ghost use Rattle.lta_spec.specs.Memory.{run_layout};

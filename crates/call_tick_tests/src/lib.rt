@@ -1,4 +1,6 @@
 // The tests of a tick.
+#![tactic(auto)]
+
 ghost use Rattle.std.specs.Prelude.{◌≡◌, [], ◌∷◌, ◌*◌, ◌≤◌, length};
 ghost use Rattle.lta_spec.specs.Refusals.{test, first_of};
 ghost use Rattle.lta_spec.specs.Call.{samples_ok, validity_ok};

@@ -1,4 +1,6 @@
 // An integration of one cell that is not refused: Held goes to its bin, or to a loss.
+#![tactic(auto)]
+
 ghost use Rattle.std.specs.Prelude.{◌*◌};
 ghost use Rattle.lta_spec.specs.Engine.{integrate_cell};
 ghost use Rattle.cell_layout.specs.Cells.{Fits, unit_of, places_of};

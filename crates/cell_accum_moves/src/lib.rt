@@ -1,4 +1,6 @@
 // The moves of an integration: Held goes to a loss or joins its bin, or the bin's set goes to a loss.
+#![tactic(auto)]
+
 ghost use Rattle.std.specs.Prelude.{◌≡◌, cond, ◌*◌, ◌<◌, eqb};
 ghost use Rattle.lta_spec.specs.Place.{free, filling, ready, replaced, loss_count};
 ghost use Rattle.lta_spec.specs.Call.{last};

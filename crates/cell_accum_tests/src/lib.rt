@@ -1,4 +1,6 @@
 // The tests of refusal 11 on one cell, by an integration.
+#![tactic(auto)]
+
 ghost use Rattle.std.specs.Prelude.{◌≡◌, ◌*◌, ◌<◌};
 ghost use Rattle.lta_spec.specs.Damage.{integrate_sound};
 ghost use Rattle.cell_layout.specs.Cells.{Fits, places_of};

@@ -1,4 +1,6 @@
 // The bins of one cell: where they stand, the tests of refusal 11 on a bin, and what an emission leaves.
+#![tactic(auto)]
+
 ghost use Rattle.std.specs.Prelude.{◌≡◌, ◌+◌, ◌*◌, ◌<◌, ◌≤◌, ltb};
 ghost use Rattle.lta_spec.specs.Shape.{bin_limit};
 ghost use Rattle.lta_spec.specs.Engine.{empty_bin};

@@ -1,4 +1,6 @@
 // The recirculation block counter of one cell: the test of refusal 11 on it, and its step in a dump.
+#![tactic(auto)]
+
 ghost use Rattle.std.specs.Prelude.{◌≡◌, true, ◌<◌, ◌≤◌};
 ghost use Rattle.lta_spec.specs.Call.{idle};
 ghost use Rattle.lta_spec.specs.Engine as E;

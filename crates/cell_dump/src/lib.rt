@@ -1,4 +1,6 @@
 // A dump of one cell that is not refused: Open goes to a loss, or to Held, or is emptied behind its frame.
+#![tactic(auto)]
+
 ghost use Rattle.std.specs.Prelude.{◌≡◌, true, false, ◌<◌, eqb};
 ghost use Rattle.lta_spec.specs.Place.{loss_count};
 ghost use Rattle.lta_spec.specs.Engine.{loss_at, lose_open, hold_open, send_open, dump_cell};

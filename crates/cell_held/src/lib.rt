@@ -1,4 +1,6 @@
 // The tests of refusal 11 on Held, of one cell.
+#![tactic(auto)]
+
 ghost use Rattle.std.specs.Prelude.{◌≡◌};
 ghost use Rattle.lta_spec.specs.Damage.{held_ok, label_ok};
 ghost use Rattle.cell_layout.specs.Cells.{Fits, places_of};

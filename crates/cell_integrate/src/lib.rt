@@ -1,4 +1,6 @@
 // An integration with the Ready number of its cell: what 11 tests, and the number behind it.
+#![tactic(auto)]
+
 ghost use Rattle.std.specs.Prelude.{◌≡◌, true};
 ghost use Rattle.lta_spec.specs.Engine.{integrate_cell};
 ghost use Rattle.lta_spec.specs.Damage.{label_ok, integrate_unit_sound};

@@ -1,5 +1,7 @@
 // Where the words of a run stand in work memory, and the fields of a cell in its words. specs/ has the definitions;
 // proofs/ the laws by which a store in the words is a change of the field.
+#![tactic(auto)]
+
 ghost use Rattle.std.specs.Prelude.{◌≡◌, ◌+◌, ◌*◌, ◌<◌, ◌≤◌};
 ghost use Rattle.lta_spec.specs.Size.{row_words, depth, bin_words, cell_words};
 ghost use Rattle.lta_spec.specs.Place.{loss_count};

@@ -1,4 +1,6 @@
 // One cell on a loss page: the test of 11 on its six losses, and their lines.
+#![tactic(auto)]
+
 ghost use Rattle.std.specs.Prelude.{◌≡◌, true, map, ◌+◌, ◌*◌, ◌≤◌, ◌<◌, length};
 ghost use Rattle.lta_spec.specs.Words.{splice, joined, over_all};
 ghost use Rattle.lta_spec.specs.Shape.{run_limit};

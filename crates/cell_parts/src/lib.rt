@@ -1,4 +1,6 @@
 // The tests of refusal 11 on the parts of one cell: Open and the losses.
+#![tactic(auto)]
+
 ghost use Rattle.std.specs.Prelude.{◌≡◌, true, false, ◌+◌, ◌-◌, ◌<◌};
 ghost use Rattle.lta_spec.specs.Place.{loss_count};
 ghost use Rattle.lta_spec.specs.Damage.{open_ok, losses_ok, loss_holds};

@@ -1,4 +1,6 @@
 // A pick in one cell: what 11 tests of it, and the bin that a pick takes.
+#![tactic(auto)]
+
 ghost use Rattle.std.specs.Prelude.{◌≡◌, cond, ◌+◌, ◌*◌, ◌<◌, ◌≤◌, eqb};
 ghost use Rattle.lta_spec.specs.Place.{ready};
 ghost use Rattle.lta_spec.specs.Engine.{bin_at, picked_bin};

@@ -1,4 +1,6 @@
 // A reading of one cell's ledger, and a forecast.
+#![tactic(auto)]
+
 ghost use Rattle.std.specs.Prelude.{◌≡◌, true, ◌<◌, ◌≤◌};
 ghost use Rattle.lta_spec.specs.Shape.{run_limit};
 ghost use Rattle.lta_spec.specs.Place.{loss_count};

@@ -1,4 +1,6 @@
 // The Ready number of one cell: the test of refusal 11 on it beside a bin, and what an emission leaves of a cell.
+#![tactic(auto)]
+
 ghost use Rattle.std.specs.Prelude.{◌≡◌, cond, ◌*◌, ◌<◌, ◌≤◌, eqb};
 ghost use Rattle.lta_spec.specs.Place.{ready};
 ghost use Rattle.lta_spec.specs.Engine.{bin_at};

@@ -1,4 +1,6 @@
 // The shift registers of one cell.
+#![tactic(auto)]
+
 ghost use Rattle.lta_spec.specs.Memory.{unit_layout};
 ghost use Rattle.cell_layout.specs.Lays.{Lays};
 ghost use Rattle.cell_layout.specs.Cells.{Fits, unit_of};

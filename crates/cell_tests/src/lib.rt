@@ -1,4 +1,6 @@
 // The tests of refusal 11 on one cell, by a dump and by a tick.
+#![tactic(auto)]
+
 ghost use Rattle.std.specs.Prelude.{◌≡◌};
 ghost use Rattle.lta_spec.specs.Damage.{dump_parts, loses_none, dump_sound, tick_sound};
 ghost use Rattle.cell_layout.specs.Cells.{Fits, unit_of, places_of};

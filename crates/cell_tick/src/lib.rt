@@ -1,4 +1,6 @@
 // One cell's tick: its registers move, and the tick is added to Open or, where Open is full, to loss 6.
+#![tactic(auto)]
+
 ghost use Rattle.std.specs.Prelude.{◌≡◌, ◌*◌, ◌/◌};
 ghost use Rattle.lta_spec.specs.Engine.{has_room};
 ghost use Rattle.cell_layout.specs.Cells.{Fits, unit_of, places_of};

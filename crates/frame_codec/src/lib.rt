@@ -1,4 +1,6 @@
 // Runs of 32-bit words in bytes: put, summed, tested; lag numbers as two's complement words.
+#![tactic(auto)]
+
 ghost use Rattle.std.specs.Prelude.{◌≡◌, ◌+◌, ◌*◌, ◌≤◌, map, length, take};
 ghost use Rattle.lta_spec.specs.Words.{part, splice, every};
 ghost use Rattle.lta_spec.specs.Bytes.{bytes_of, words_of, signed};

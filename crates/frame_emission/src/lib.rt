@@ -1,5 +1,7 @@
 // The frame of a row, a bin's or Open's, written from the words that the engine keeps of it: ticks, edge and centre
 // count, then the biased sums.
+#![tactic(auto)]
+
 ghost use Rattle.std.specs.Prelude.{◌≡◌, true, ◌+◌, ◌*◌, ◌≤◌, length, pos, ◌-ℤ◌};
 ghost use Rattle.lta_spec.specs.Words.{splice};
 ghost use Rattle.lta_spec.specs.Bytes.{word_range, bytes_of, number_word};

@@ -1,4 +1,6 @@
 // The fields of the frame of a row, from the shape, its kind, the names of its bin, its stamp and its words.
+#![tactic(auto)]
+
 ghost use Rattle.std.specs.Prelude.{◌≡◌, true, ◌+◌, ◌/◌, ◌%◌, ◌<◌, ◌≤◌};
 ghost use Rattle.lta_spec.specs.Bytes.{word_range};
 ghost use Rattle.lta_spec.specs.Frame.{fields_ok};

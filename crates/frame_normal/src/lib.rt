@@ -1,4 +1,6 @@
 // A lag of a frame, normalised by its centre count.
+#![tactic(auto)]
+
 ghost use Rattle.std.specs.Prelude.{◌≡◌, ◌+◌, ◌*◌, ◌≤◌, length, get_or};
 ghost use Rattle.lta_spec.specs.Answer.{normalised_as};
 ghost use Rattle.lta_spec.specs.Bytes.{words_of, signed};

@@ -1,4 +1,6 @@
 // The reader of frames: its verdict, the fields, and the part that holds the lag pairs.
+#![tactic(auto)]
+
 ghost use Rattle.std.specs.Prelude.{◌≡◌, ◌+◌, ◌*◌, ◌≤◌, length};
 ghost use Rattle.lta_spec.specs.Answer.{parsed_as};
 ghost use Rattle.lta_spec.specs.Bytes.{words_of};

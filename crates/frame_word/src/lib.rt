@@ -1,4 +1,6 @@
 // A 32-bit word in bytes, low byte first, read and written; a lag number as a two's complement word.
+#![tactic(auto)]
+
 ghost use Rattle.std.specs.Prelude.{◌≡◌, ◌+◌, ◌*◌, ◌<◌, ◌≤◌, length, get_or, [], ◌∷◌};
 ghost use Rattle.lta_spec.specs.Words.{splice};
 ghost use Rattle.lta_spec.specs.Bytes.{bytes_of, words_of, number_word, signed};

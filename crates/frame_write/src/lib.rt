@@ -1,4 +1,6 @@
 // The writer of frames from fields and lag numbers.
+#![tactic(auto)]
+
 ghost use Rattle.std.specs.Prelude.{◌≡◌, true, ◌+◌, ◌*◌, ◌≤◌, length};
 ghost use Rattle.lta_spec.specs.Answer.{written_as};
 ghost use Rattle.lta_spec.specs.Words.{splice};

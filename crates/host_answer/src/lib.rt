@@ -1,4 +1,6 @@
 // Answers by document 01's numbers, for hosts that are told numbers and not cases.
+#![tactic(auto)]
+
 ghost use Rattle.std.specs.Prelude.{◌≡◌};
 ghost use Rattle.lta_spec.specs.Refusals.{refusal_number, loss_number};
 ghost use Rattle.lta_spec.specs.Answer.{needed_as, started_as, ticked_as, moved_as, written_as, forecast_as};

@@ -1,4 +1,6 @@
 // Answers that hold values, to one number and to numbers in a slice that was lent.
+#![tactic(auto)]
+
 ghost use Rattle.std.specs.Prelude.{◌≡◌, ◌&&◌, ◌≤◌, leb, length};
 ghost use Rattle.lta_spec.specs.Answer.{parsed_as, normalised_as, ledger_as};
 ghost use Rattle.lta_spec.specs.Answer.Answer.{entry, fields};

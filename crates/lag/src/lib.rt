@@ -1,4 +1,6 @@
 // What one tick adds to a row: its counts, and the terms of its lags.
+#![tactic(auto)]
+
 ghost use Rattle.std.specs.Prelude.{◌≡◌, map, ℕ, ◌+◌, ◌*◌, ◌/◌, ◌<◌, ◌≤◌, ◌^◌, length, get_or, take};
 ghost use Rattle.lta_spec.specs.Words.{part, splice, sums};
 ghost use Rattle.lta_spec.specs.Size.{depth, row_words};

@@ -1,4 +1,6 @@
 // A tick is counted in a row: one tick more, and its valid products at the edge and the centre.
+#![tactic(auto)]
+
 ghost use Rattle.std.specs.Prelude.{◌≡◌, ◌∷◌, [], ℕ, ◌+◌, ◌*◌, ◌<◌, ◌≤◌, ◌^◌, length, get_or};
 ghost use Rattle.lta_spec.specs.Words.{part, splice, sums};
 ghost use Rattle.lta_spec.specs.Size.{depth};

@@ -1,5 +1,7 @@
 // The shift registers of a cell: they take an entry, and are read decoded, Y the other way round, so that lag 2j
 // is X[j] · Y[j] and lag 2j + 1 is X[j + 1] · Y[j].
+#![tactic(auto)]
+
 ghost use Rattle.std.specs.Prelude.{◌≡◌, ◌∷◌, ◌+◌, ◌*◌, ◌≤◌, length, take};
 ghost use Rattle.lta_spec.specs.Words.{part, splice};
 ghost use Rattle.lta_spec.specs.Size.{depth};

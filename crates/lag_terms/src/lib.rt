@@ -1,5 +1,7 @@
 // The lag loop, over decoded entries alone: lag 2j is X[j] · Y[j] and lag 2j + 1 is X[j + 1] · Y[j], where X stands
 // newest first and Y oldest first. In each of xs and ys stand m samples, and behind them m phases.
+#![tactic(auto)]
+
 ghost use Rattle.std.specs.Prelude.{◌≡◌, ◌+◌, ◌*◌, ◌<◌, ◌≤◌, length, set};
 ghost use Rattle.lta_spec.specs.Words.{splice};
 ghost use Rattle.signal.specs.Signal.{turn_i, turn_q};

@@ -1,5 +1,7 @@
 // The calls on a run. Each contract is the definition `step` at that call: the answer and every lent byte, on any
 // input.
+#![tactic(auto)]
+
 pub use call_dump::dump;
 pub use call_emit::emit;
 pub use call_forecast::forecast;

@@ -1,4 +1,6 @@
 // The script program of document 01, on standard input.
+#![tactic(auto)]
+
 use libc::STDIN_FILENO;
 use lta_spec::Started;
 use script::input::run_input;

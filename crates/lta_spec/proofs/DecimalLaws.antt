@@ -5,7 +5,7 @@ use mathlib.Core.Bool.{Bool, true, false, cond}
 use mathlib.Core.List.{List, [], ◌∷◌, ◌++◌}
 use native.Mathlib.Nat.{not-suc-le-zero, pow-suc}
 use native.Mathlib.Omega.{arith}
-use lib.Dec.{ltb}
+use lib.Dec.{ltb, eqb}
 use lib.ListN.{length, replicate, length-append, length-replicate}
 use borrow.Author.Tests.{ltb-true, ltb-false, lt-ltb, le-ltb, ne_eqb}
 use Rattle.lta_spec.specs.Decimal.{space, digit, decimal_within, decimal, right_aligned, read_behind, read_number}
@@ -81,7 +81,7 @@ length-right w n h =
 read-append : (v : ℕ) (a b : List ℕ) → read_behind v (a ++ b) ≡ read_behind (read_behind v a) b
 unfolding read_behind
 read-append v [] b = refl
-read-append v (x ∷ a) b = read-append _ a b
+read-append v (x ∷ a) b = read-append (cond (eqb x space) v (10 * v + (x - digit 0))) a b
 
 read-digit : (v d : ℕ) → read_behind v (digit d ∷ []) ≡ 10 * v + d
 unfolding read_behind

@@ -286,7 +286,7 @@ module _ (sh : Shape) (mem out : List ℕ) (v : S.verdict sh mem (page out) ≡ 
       ap (λ l. get_or l i (row_counts (empty_row n)))
       (get_d_map S.loss_counts run.units c (E.fresh_unit n sh.bins) []
       (omega (arith, p.count)))
-      ∙ ListN.get_d_map row_counts (S.cell_at sh c run).losses i (empty_row n)
+      ∙ ListN.get_or-map row_counts (S.cell_at sh c run).losses i (empty_row n)
 
   shows : Shows sh run (page_left sh mem out)
   shows =

@@ -1,4 +1,6 @@
 // The types of the calls. What the calls mean is in specs/, in the order of document 01.
+#![tactic(auto)]
+
 
 // The shape of a run: C, N, B, M, S, R and Z of document 01.
 #[derive(Drop)]

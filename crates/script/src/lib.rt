@@ -1,4 +1,6 @@
 // The script of document 01: each record's call with its line, and the records of some bytes one after the other.
+#![tactic(auto)]
+
 pub mod input;
 
 ghost use Rattle.std.specs.Prelude.{◌≡◌, ◌+◌, ◌*◌, ◌≤◌, length};

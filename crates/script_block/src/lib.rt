@@ -1,5 +1,7 @@
 // A block of a script's bytes: bytes read behind those that are kept, bytes moved to the front, and the number that END
 // says of what is left.
+#![tactic(auto)]
+
 ghost use Rattle.std.specs.Prelude.{◌≡◌, ◌≤◌, length, take};
 ghost use Rattle.script_bytes.specs.Bytes.{stops_at};
 ghost use Rattle.script_block.specs.Block.{Filled, Left, end_number};

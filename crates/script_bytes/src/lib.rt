@@ -1,4 +1,6 @@
 // What stands at the head of some bytes of a script, and at a position in them.
+#![tactic(auto)]
+
 ghost use Rattle.std.specs.Prelude.{◌≡◌, take, drop};
 ghost use Rattle.script_bytes.specs.Bytes.{size_in, next_in, next_at, unknown_mark};
 

@@ -1,4 +1,6 @@
 // The call that each record of a script makes, on a run of one cell.
+#![tactic(auto)]
+
 ghost use Rattle.std.specs.Prelude.{◌≡◌};
 ghost use Rattle.lta_spec.specs.Edges.{script_shape};
 ghost use Rattle.host_answer.specs.Numbered.{numbered_as};

@@ -1,5 +1,7 @@
 // The lines that a script prints, put into a lent buffer: each function puts its bytes from `at` on and answers the
 // place behind them.
+#![tactic(auto)]
+
 ghost use Rattle.std.specs.Prelude.{◌≡◌, [], ◌∷◌, ◌+◌, ◌*◌, ◌≤◌, pos, length};
 ghost use Rattle.lta_spec.specs.Words.{splice};
 ghost use Rattle.lta_spec.specs.Bytes.{signed};

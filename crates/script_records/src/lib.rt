@@ -1,4 +1,6 @@
 // The records of a script as bytes: two letters, then as many bytes as they say.
+#![tactic(auto)]
+
 ghost use Rattle.std.specs.Prelude.{◌≡◌, ◌+◌, ◌*◌, ◌≤◌, length};
 ghost use Rattle.script_records.specs.Records.{tick_mark, dump_mark, integrate_mark, emit_mark, record_size};
 ghost use Rattle.script_records.specs.Records.{tick_in, dump_in, integrate_in, emit_in, marked_in};

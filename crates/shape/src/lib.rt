@@ -1,4 +1,6 @@
 // The host's refusals: 1, a shape value out of its limits; 2, work memory not exactly the needed length.
+#![tactic(auto)]
+
 ghost use Rattle.std.specs.Prelude.{◌≡◌, true, ◌≤◌};
 ghost use Rattle.lta_spec.specs.Refusals.{first_of};
 ghost use Rattle.lta_spec.specs.Shape.{lag_count_ok, shape_ok};

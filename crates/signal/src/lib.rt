@@ -1,5 +1,7 @@
 // A shift register entry stored and decoded, and what one lag adds, in words of 16 bits. Sums and products wrap, a
 // number below 0 stands in two's complement, and nothing is asked of the words. What a lag adds carries a bias of PEAK.
+#![tactic(auto)]
+
 ghost use Rattle.std.specs.Prelude.{◌≡◌, ◌≤◌};
 ghost use Rattle.lta_spec.specs.Row.{entry_word};
 ghost use Rattle.signal.specs.Signal.{sample_of, phase_of, valid_of, both_flag, times16, turned};

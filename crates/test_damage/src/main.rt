@@ -1,5 +1,7 @@
 // Holds the calls on a run to the papers on memory that nobody but the test has written: refusal 11, clause by clause
 // and part by part. What is due is decided by test_lib_memory; in the rows of losses it is written beside that.
+#![tactic(auto)]
+
 mod losses;
 mod sweep;
 

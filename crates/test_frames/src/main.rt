@@ -2,6 +2,8 @@
 // 2026-06: a line for each group of rows, once for each kind of frame.
 // What is due is written in the rows, or decided by the model of test_lib_frames; from the crates under test come the
 // calls and the types of their answers.
+#![tactic(auto)]
+
 mod example;
 mod normal;
 

@@ -1,2 +1,4 @@
 // The calls of a list.
+#![tactic(auto)]
+
 pub mod draw;

@@ -1,5 +1,7 @@
 // One call on memory that the test has set: its answer, what it wrote, and every word afterwards are held to what the
 // papers say of those words.
+#![tactic(auto)]
+
 use lta_spec::Shape;
 use std::num::wrapping_sub_u64;
 use test_lib_after::after::right;

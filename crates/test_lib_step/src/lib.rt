@@ -1,5 +1,7 @@
 // One call of a list: its answer and what it wrote are held to the plain machine, which then takes the call itself. And
 // work memory behind some calls, each word of it.
+#![tactic(auto)]
+
 use lta_spec::Shape;
 use std::num::wrapping_add_u64;
 use test_lib_calls::ask;

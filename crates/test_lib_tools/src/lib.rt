@@ -1,5 +1,7 @@
 // What all test programs are made of: bytes and words of a slice (bytes, words), pseudo-random numbers (random), and
 // the lines that tell how many rows agree (report). Nothing here is from the crates under test.
+#![tactic(auto)]
+
 pub mod bytes;
 pub mod random;
 pub mod report;

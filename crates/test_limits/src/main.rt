@@ -1,5 +1,7 @@
 // Holds the calls on a run to the papers at both sides of every limit of shapes, arguments, sets and samples. What is
 // due is written in the rows, or decided by test_lib_memory.
+#![tactic(auto)]
+
 mod binning;
 mod limits;
 mod samples;

@@ -1,6 +1,8 @@
 // Holds the calls on a run to the papers, by long lists of calls: every answer, frame, reading and page, and all words
 // of work memory, are compared with the plain machine of test_lib_machine, which knows sets of tick numbers and the
 // sampler's bytes alone.
+#![tactic(auto)]
+
 use lta_spec::Shape;
 use std::num::wrapping_add_u64;
 use test_lib_calls::ask::setup;

@@ -1,5 +1,7 @@
 // Holds the calls on a run to the order of the papers' refusals, and an integration and an emission to what they say of
 // the number of Ready bins. What is due is written in the rows, or decided by test_lib_memory.
+#![tactic(auto)]
+
 mod order;
 mod ready;
 

@@ -1,6 +1,8 @@
 // Scripts held in memory, each on a fresh run: one script cut at every byte, marks that are unknown, every refusal and
 // every loss that a script can meet, sums as great as ticks can make them, and frames whose words tell signs, banks and
 // data bins apart.
+#![tactic(auto)]
+
 use libc::STDOUT_FILENO;
 use lta_spec::{Started, Written};
 use script::input::run_bytes;

@@ -1,6 +1,8 @@
 // Scripts that come in blocks, each on a fresh run: standard input, of more than 1,000 records and several blocks,
 // which ends in a cut record; then files, one of more than 1,000 blocks, through the smallest block that has room for
 // every record.
+#![tactic(auto)]
+
 use libc::{STDIN_FILENO, STDOUT_FILENO};
 use lta_spec::Started;
 use script::input::run_input;

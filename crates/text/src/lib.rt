@@ -1,4 +1,6 @@
 // Text in a lent buffer: bytes, decimal numbers, and numbers right-aligned in columns.
+#![tactic(auto)]
+
 ghost use Rattle.std.specs.Prelude.{◌≡◌, [], ◌∷◌, ◌+◌, ◌-◌, ◌≤◌, ◌<◌, length, replicate};
 ghost use Rattle.lta_spec.specs.Words.{splice};
 ghost use Rattle.lta_spec.specs.Decimal.{space, decimal, right_aligned};

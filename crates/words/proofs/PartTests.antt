@@ -1,5 +1,5 @@
 -- Laws of tests over the words of a part.
-use Rattle.std.proofs.Common.{◌≡◌, ℕ, suc, ◌+◌, ◌-◌, ◌*◌, ◌%◌, ◌^◌, ◌<◌, ◌≤◌, Bool, true, false, ◌&&◌, ltb, leb, ◌⊎◌, List, [], ◌∷◌, length, get_or, drop, sym, refl, ap, ◌∙◌, inl, inr, ⊎_elim, add-zero, arith, length-drop, length-take-le, get_or-drop, drop-drop, take-add, drop_at, ltb-false, ltb-true, le-ltb, lt-ltb, le-leb, leb-true}
+use Rattle.std.proofs.Common.{◌≡◌, ℕ, suc, ◌+◌, ◌*◌, ◌%◌, ◌^◌, ◌<◌, ◌≤◌, Bool, true, false, ◌&&◌, ltb, leb, ◌⊎◌, List, [], ◌∷◌, length, get_or, drop, sym, refl, ap, ◌∙◌, inl, inr, ⊎_elim, add-zero, arith, length-drop, length-take-le, get_or-drop, drop-drop, take-add, drop_at, ltb-false, ltb-true, le-ltb, lt-ltb, le-leb, leb-true}
 use mathlib.Core.Bool.{and_assoc}
 use lib.Bits.{bit_or, or_add_and, and_le_r, or_lt, or_comm}
 use borrow.Author.Tests.{lt-leb}

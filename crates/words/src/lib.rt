@@ -1,5 +1,7 @@
 // Words of a lent slice: a row is added to another and cleared, a part is cleared, and the tests of refusal 11 on rows
 // and on shift registers.
+#![tactic(auto)]
+
 ghost use Rattle.std.specs.Prelude.{◌≡◌, ◌+◌, ◌*◌, ◌<◌, ◌≤◌, true, length};
 ghost use Rattle.lta_spec.specs.Words.{part, splice, zeros, every};
 ghost use Rattle.lta_spec.specs.Shape.{run_limit};
