@@ -9,7 +9,7 @@ ghost use Rattle.host_answer.specs.Numbered.{numbered_as};
 use lta_spec::{Forecast, Loss, Moved, Needed, Refusal, Started, Ticked, Written};
 
 // An answer that is a number, or the refusal.
-#[derive(Drop)]
+#[derive(Clone, Copy)]
 pub enum Numbered {
     Number(u64),
     Refused(Refusal),

@@ -1,9 +1,8 @@
 // The types of the calls. What the calls mean is in specs/, in the order of document 01.
 #![tactic(auto)]
 
-
 // The shape of a run: C, N, B, M, S, R and Z of document 01.
-#[derive(Drop)]
+#[derive(Clone, Copy)]
 pub struct Shape {
     // C: cells, the memo's lag cells.
     pub cells: u64,
@@ -22,7 +21,7 @@ pub struct Shape {
 }
 
 // Who may be told no: a name for each number of documents 01 and 02, in the order 1 to 20.
-#[derive(Drop)]
+#[derive(Clone, Copy)]
 pub enum Refusal {
     BadShape,
     WrongMemory,
@@ -47,14 +46,14 @@ pub enum Refusal {
 }
 
 // What the ordered tests of a call say.
-#[derive(Drop)]
+#[derive(Clone, Copy)]
 pub enum Verdict {
     Accepted,
     Refused(Refusal),
 }
 
 // The six losses, in the order 1 to 6.
-#[derive(Drop)]
+#[derive(Clone, Copy)]
 pub enum Loss {
     Ordered,
     Overrun,
@@ -65,21 +64,21 @@ pub enum Loss {
 }
 
 // How many words of work memory a shape needs.
-#[derive(Drop)]
+#[derive(Clone, Copy)]
 pub enum Needed {
     Words(u64),
     Refused(Refusal),
 }
 
 // Setup.
-#[derive(Drop)]
+#[derive(Clone, Copy)]
 pub enum Started {
     Fresh,
     Refused(Refusal),
 }
 
 // A tick: the number of cells held off.
-#[derive(Drop)]
+#[derive(Clone, Copy)]
 pub enum Ticked {
     HeldOff(u64),
     Refused(Refusal),
@@ -87,7 +86,7 @@ pub enum Ticked {
 
 // A dump or an integration: kept, the loss that it added to, nothing to do (command 111), or the length in bytes of the
 // speed frame that is written (command 011).
-#[derive(Drop)]
+#[derive(Clone, Copy)]
 pub enum Moved {
     Kept,
     Lost(Loss),
@@ -97,14 +96,14 @@ pub enum Moved {
 }
 
 // An emission, a frame written from its fields, or a loss page: the length in bytes of what is written.
-#[derive(Drop)]
+#[derive(Clone, Copy)]
 pub enum Written {
     Length(u64),
     Refused(Refusal),
 }
 
 // The numbers of one loss at one lag.
-#[derive(Drop)]
+#[derive(Clone, Copy)]
 pub struct Sums {
     pub i: i64,
     pub q: i64,
@@ -114,14 +113,14 @@ pub struct Sums {
 }
 
 // A reading of the ledger.
-#[derive(Drop)]
+#[derive(Clone, Copy)]
 pub enum Ledger {
     Entry(Sums),
     Refused(Refusal),
 }
 
 // The numbers of one line of a loss page.
-#[derive(Drop)]
+#[derive(Clone, Copy)]
 pub struct Counts {
     pub ticks: u64,
     pub edge: u64,
@@ -129,14 +128,14 @@ pub struct Counts {
 }
 
 // A forecast: ticks that a cell may still take.
-#[derive(Drop)]
+#[derive(Clone, Copy)]
 pub enum Forecast {
     Ticks(u64),
     Refused(Refusal),
 }
 
 // The fields of a frame's header words.
-#[derive(Drop)]
+#[derive(Clone, Copy)]
 pub struct Fields {
     // The memo's frame type: 2, a frame of the accumulator; 3, a speed frame.
     pub kind: u32,
@@ -166,28 +165,28 @@ pub const PEAK: u32 = 128;
 pub const MARK: [u8; 2] = [0x4c, 0x54];
 
 // A part of a slice: where it starts, and how long it is.
-#[derive(Drop)]
+#[derive(Clone, Copy)]
 pub struct Span {
     pub at: u64,
     pub length: u64,
 }
 
 // What the frame reader answers.
-#[derive(Drop)]
+#[derive(Clone, Copy)]
 pub enum Parsed {
     Frame(Fields),
     Refused(Refusal),
 }
 
 // Real and imaginary part of one normalised lag.
-#[derive(Drop)]
+#[derive(Clone, Copy)]
 pub struct Complex {
     pub re: f64,
     pub im: f64,
 }
 
 // A normalised lag, or no data where the centre count is 0.
-#[derive(Drop)]
+#[derive(Clone, Copy)]
 pub enum Normalised {
     Lag(Complex),
     NoData,

@@ -17,7 +17,7 @@ use script_lines::put_answer;
 use script_records::{Next, Record};
 
 // Where the records of some bytes stopped, and how many bytes of lines there are.
-#[derive(Drop)]
+#[derive(Clone, Copy)]
 struct Ran {
     at: usize,
     len: usize,

@@ -5,7 +5,7 @@ ghost use Rattle.std.specs.Prelude.{◌≡◌, ◌+◌, ◌*◌, ◌≤◌, leng
 ghost use Rattle.script_records.specs.Records.{tick_mark, dump_mark, integrate_mark, emit_mark, record_size};
 ghost use Rattle.script_records.specs.Records.{tick_in, dump_in, integrate_in, emit_in, marked_in};
 
-#[derive(Drop)]
+#[derive(Clone, Copy)]
 pub struct Dump {
     pub cell: u64,
     pub command: u64,
@@ -13,14 +13,14 @@ pub struct Dump {
     pub phase: u64,
 }
 
-#[derive(Drop)]
+#[derive(Clone, Copy)]
 pub struct Emit {
     pub cell: u64,
     pub bank: u64,
     pub bin: u64,
 }
 
-#[derive(Drop)]
+#[derive(Clone, Copy)]
 pub enum Record {
     // X, Y and validity.
     Tick(u8, u8, u8),
@@ -30,7 +30,7 @@ pub enum Record {
 }
 
 // What stands next in the input. Cut: an unknown mark, or a record that the input ends in.
-#[derive(Drop)]
+#[derive(Clone, Copy)]
 pub enum Next {
     Record(Record),
     End,

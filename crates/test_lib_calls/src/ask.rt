@@ -175,7 +175,7 @@ fn signed(w: u64) -> i64 {
 }
 
 // The numbers of a set, the sums in two's complement.
-#[derive(Drop)]
+#[derive(Clone, Copy)]
 pub struct Numbers {
     pub i: u64,
     pub q: u64,

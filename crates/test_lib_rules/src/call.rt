@@ -28,7 +28,7 @@ pub const PICK: u64 = 7;
 // Command 011 of a dump: a speed dump.
 pub const SPEED_DUMP: u64 = 3;
 
-#[derive(Drop)]
+#[derive(Clone, Copy)]
 pub struct Call {
     pub kind: u64,
     // Words of work memory lent.

@@ -5,7 +5,7 @@ use std::num::wrapping_add_u64;
 use test_lib_tools::bytes::length;
 
 // What tells a frame apart from its set: its kind, its place in the run, and the stamp.
-#[derive(Drop)]
+#[derive(Clone, Copy)]
 pub struct Header {
     pub kind: u64,
     pub cell: u64,

@@ -15,7 +15,7 @@ use test_lib_tools::words::{digest, get, less, put, times};
 
 // A case of the data bin rule: the shape's B, M and S, the phase bin of a dump, the block that is stored behind a 000,
 // counted from S, and what is due: the data bin with the next block, or 1,000 and a refusal's number.
-#[derive(Drop)]
+#[derive(Clone, Copy)]
 struct DumpCase {
     bins: u64,
     blocks: u64,

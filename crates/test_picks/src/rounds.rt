@@ -160,7 +160,7 @@ pub fn all(t: Tally, r: u64) -> Tally {
 }
 
 // A round: the shape's C and B, the places at which the pick starts, and the one Ready bin, q of cell c.
-#[derive(Drop)]
+#[derive(Clone, Copy)]
 struct RoundCase {
     cells: u64,
     bins: u64,

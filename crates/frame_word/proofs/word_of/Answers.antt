@@ -9,10 +9,8 @@ use mir.Val.{of_z, to_z, SFits}
 use mir.ValLaws.{to_z-of_z}
 use borrow.Author.Tests.{le-ltb}
 use Rattle.lta_spec.specs.Bytes.{word_range, number_word}
-use borrow.Author.Rules.{rules}
 use native.Mathlib.Omega.{arith}
-use Rattle.frame_word.proofs.word_of.Statement.{statement}
-use Rattle.frame_word.proofs.word_of.Tie as tie
+use Rattle.frame_word.proofs.word_of.Goals as goal
 
 raised : ℤ → ℕ
 raised x = nat_abs (x +ℤ pos word_range)
@@ -38,25 +36,19 @@ summed x h = rw (to_z-of_z w32 x h, to_z-of_z w64 x (wide_fits x h)) (raise x h)
 natural : (x : ℤ) → SFits w32 x → SFits w64 (pos (raised x))
 natural x h = record { sfits = omega (arith, (raise x h).small) }
 
-cast-up : tie.Need-overflow-cast-up
-cast-up c = rw (to_z-of_z w32 c.args.x c.ranges.x) (wide_fits c.args.x c.ranges.x)
+pub overflow_cast-up : goal.overflow_cast-up
+overflow_cast-up c = rw (to_z-of_z w32 c.args.x c.ranges.x) (wide_fits c.args.x c.ranges.x)
 
-add-up : tie.Need-overflow-add-up
-add-up c = rw (summed c.args.x c.ranges.x) (natural c.args.x c.ranges.x)
+pub overflow_add-up : goal.overflow_add-up
+overflow_add-up c = rw (summed c.args.x c.ranges.x) (natural c.args.x c.ranges.x)
 
-cast-result : tie.Need-overflow-cast-result
-cast-result c =
+pub overflow_cast-result : goal.overflow_cast-result
+overflow_cast-result c =
     let x = c.args.x in
     rw (summed x c.ranges.x, to_z-of_z w64 (pos (raised x)) (natural x c.ranges.x))
     (tt, record { fits = omega (arith, (raise x c.ranges.x).small) })
 
-cast-result-2 : tie.Need-overflow-cast-result-2
-cast-result-2 c = search rules
-
-returns : tie.Need-returns
+pub returns : goal.returns
 returns c =
     let x = c.args.x in
     rw (summed x c.ranges.x, to_z-of_z w64 (pos (raised x)) (natural x c.ranges.x)) (raise x c.ranges.x).low
-
-pub word-of-spec : {M : Type 1} → statement M
-word-of-spec = tie.close (tie.spec cast-up add-up cast-result cast-result-2 returns)
