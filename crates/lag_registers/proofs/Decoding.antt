@@ -57,8 +57,8 @@ module _ (w : ℕ → ℕ) (m : ℕ) where
   -- one entry more
   module _ (j : ℕ) (ws : List ℕ) (more : j < m) (long : 3 * m ≤ length ws) where
     abbrev next : List ℕ
-    next = stored ws j (m + j) (2 * m + j) (sample_of (w j)) (phase_of (w j)) (valid_of (w j)) (omega arith) (omega arith)
-        (omega arith)
+    next = stored ws j (m + j) (2 * m + j) (sample_of (w j)) (phase_of (w j)) (valid_of (w j)) (omega arith)
+        (omega arith) (omega arith)
 
     pub decodes-next : Decodes w m j ws → Decodes w m (suc j) next
     decodes-next d =
