@@ -4,7 +4,7 @@ use Rattle.script_bytes.specs.Bytes.{records_in}
 use Rattle.script_block.specs.Block.{Left, end_number}
 use Rattle.script.specs.Run.{script_leaves}
 
--- `libc::read` promises nothing of the bytes that come, so this speaks of some input: work memory is as its records
+-- A reader may promise nothing of the bytes that come, so this speaks of some input: work memory is as its records
 -- leave it, and the block starts with what is left of it
 pub record ReadOn (before after : List ℕ) (kept : ℕ) (block : List ℕ) : Type 0 where
   pub input : List ℕ

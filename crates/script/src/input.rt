@@ -1,5 +1,5 @@
-// A script to its END line: from memory into a lent buffer, or block by block from a file descriptor to standard
-// output. A record that a block ends in is moved to the front of the block, and the next bytes are read behind it.
+// A script to its END line: from memory into a lent buffer, or block by block from a reader to standard output. A
+// record that a block ends in is moved to the front of the block, and the next bytes are read behind it.
 ghost use Rattle.std.specs.Prelude.{◌≡◌, ◌*◌, ◌≤◌, leb, length, take};
 ghost use Rattle.lta_spec.specs.Answer.{written_as};
 ghost use Rattle.script_block.specs.Block.{Left};
@@ -8,11 +8,14 @@ ghost use Rattle.script.specs.Text.{text_room, script_step, Inside};
 ghost use Rattle.script.specs.Input.{ReadOn, Ended};
 
 use crate::run_records;
-use libc::STDOUT_FILENO;
 use lta_spec::{Refusal, Written};
 use script_block::{end_number, fill, to_front};
 use script_bytes::{head, tail, unknown_mark};
 use script_lines::put_end;
+use std::io::Read;
+
+// The file descriptor of standard output.
+const STDOUT_FILENO: i32 = 1;
 
 // The most bytes of a block that are used at a time: 24 × 2,730 bytes of lines have room in 65,536.
 const USED: usize = 2730;
@@ -49,14 +52,14 @@ fn run_block(mem: &mut [u64], block: &mut [u8], n: usize, lines: &mut [u8]) -> u
 
 // Runs all records, until nothing more comes or an unknown mark stands; answers how many bytes are left at the front
 // of the block. A proved loop has to end: no input has so many blocks.
-fn run_blocks(fd: i32, mem: &mut [u64], block: &mut [u8], lines: &mut [u8]) -> usize
+fn run_blocks<R: Read>(input: &mut R, mem: &mut [u64], block: &mut [u8], lines: &mut [u8]) -> usize
     requires { 24 * length block.old ≤ length lines.old }
     ensures { ReadOn mem.old mem.new result block.new }
 {
     let mut kept: usize = 0;
     let mut turns = u64::MAX;
     while turns > 0 {
-        let n = fill(fd, &mut *block, kept);
+        let n = fill(&mut *input, &mut *block, kept);
         if n == kept {
             return kept;
         }
@@ -70,11 +73,11 @@ fn run_blocks(fd: i32, mem: &mut [u64], block: &mut [u8], lines: &mut [u8]) -> u
 }
 
 // Runs a script and writes its END line; answers the number behind END.
-fn run_ended(fd: i32, mem: &mut [u64], block: &mut [u8], lines: &mut [u8]) -> u64
+fn run_ended<R: Read>(input: &mut R, mem: &mut [u64], block: &mut [u8], lines: &mut [u8]) -> u64
     requires { (24 * length block.old ≤ length lines.old) × (7 ≤ length lines.old) }
     ensures { Ended mem.old mem.new result }
 {
-    let kept = run_blocks(fd, &mut *mem, &mut *block, &mut *lines);
+    let kept = run_blocks(&mut *input, &mut *mem, &mut *block, &mut *lines);
     let number = end_number(head(&*block, kept));
     let len = put_end(&mut *lines, 0, number);
     io::write_all(STDOUT_FILENO, head(&*lines, len));
@@ -102,12 +105,12 @@ pub fn run_bytes(mem: &mut [u64], b: &[u8], out: &mut [u8]) -> Written
     Written::Refused(Refusal::ShortBuffer)
 }
 
-// A script from a file descriptor to its END line, through the block lent; answers the number behind END. For each
+// A script from a reader to its END line, through the block lent; answers the number behind END. For each
 // block of input there is one read and at most one write.
-pub fn run_input(fd: i32, mem: &mut [u64], block: &mut [u8]) -> u64
+pub fn run_input<R: Read>(input: &mut R, mem: &mut [u64], block: &mut [u8]) -> u64
     ensures { Ended mem.old mem.new result }
 {
     let n = used(block.len());
     let mut lines = io::large_buffer();
-    run_ended(fd, &mut *mem, &mut block[..n], &mut lines)
+    run_ended(&mut *input, &mut *mem, &mut block[..n], &mut lines)
 }

@@ -1,28 +1,33 @@
 -- A block: bytes read behind others, bytes moved to the front, and what is left of its bytes there.
 use Prim.Native.Nat.{ℕ, ◌+◌, ◌-◌, ◌≤◌, ◌<◌}
-use mathlib.Core.Path.{◌≡◌, sym, ap, ◌∙◌}
+use mathlib.Core.Path.{◌≡◌, refl, sym, ap, ◌∙◌}
 use mathlib.Core.List.{List, [], ◌∷◌, ◌++◌}
 use native.Mathlib.Omega.{arith}
 use native.Mathlib.Numerals.{add-one}
-use lib.ListN.{length, get_or, take, drop, set, length-take, length-drop, length-set}
+use lib.ListN.{length, get_or, take, drop, set, length-append, length-take, length-drop, length-set}
 use lib.Seq.{length-take-le, take-suc, take-suc-set, take-add, drop_at, drop-set-lt, drop-drop, get_or-drop}
 use borrow.Rule.Slice.PartMut.{put_mid, take_put}
+use Rattle.std.proofs.lemmas.Slice.{take-put_mid}
 use Rattle.script_bytes.specs.Bytes.{records_in, stops_at}
 use Rattle.script_bytes.proofs.ListLaws.{rest}
 use Rattle.script_block.specs.Block.{Filled, Left}
+
+-- a list is at least as long as what it starts with
+as-long : (m x y : List ℕ) (n : ℕ) → take n m ≡ x ++ y → length x + length y ≡ n → n ≤ length m
+as-long m x y n e f = omega (arith, ap length e, length-take n m, length-append x y)
 
 -- bytes read behind those that are kept
 module _ (kept : ℕ) (l got : List ℕ) (r : ℕ) where
   abbrev after : List ℕ
   after = put_mid kept (length l - kept) l got
 
-  pub filled : kept ≤ length l → r ≤ length (take (length after - kept) (drop kept after))
-      → Filled kept l (kept + r) after
-  filled h t =
+  pub filled : kept ≤ length l → r ≤ length got → Filled kept l (kept + r) after
+  filled h most =
       let front : take kept after ≡ take kept l = take_put kept (length l - kept) l got h in
-      let room = ap length front ∙ length-take-le kept l h in
-      let inside : kept ≤ length after = omega (arith, room, length-take kept after) in
-      let most = simp (length-take, length-drop) at t in
+      let whole : take (kept + length got) after ≡ take kept l ++ got =
+      take-put_mid kept (length l - kept) l got (kept + length got) refl h in
+      let room : kept + length got ≤ length after =
+      as-long after (take kept l) got (kept + length got) whole (omega (arith, length-take-le kept l h)) in
       record { more = omega arith; inside = omega arith; same = front }
 
 -- the first i bytes from `at` on stand at the front, and those behind the first i are as they were

@@ -8,14 +8,18 @@ ghost use Rattle.script_block.specs.Block.{Filled, Left, end_number};
 
 use host_answer::refusal_number;
 use lta_spec::Refusal;
+use std::io::Read;
 
-// Reads what has come, behind the bytes that are kept; answers how many bytes there are then.
-pub fn fill(fd: i32, block: &mut [u8], kept: usize) -> usize
+// Reads what has come, behind the bytes that are kept; answers how many bytes there are then. A read that fails is the
+// end of the input.
+pub fn fill<R: Read>(input: &mut R, block: &mut [u8], kept: usize) -> usize
     requires { kept ≤ length block.old }
     ensures { Filled kept block.old result block.new }
 {
-    let got = libc::read(fd, &mut block[kept..]);
-    kept + io::count(got, &block[kept..])
+    match input.read(&mut block[kept..]) {
+        Ok(got) => kept + got,
+        Err(_) => kept,
+    }
 }
 
 // Moves what is left of the first n bytes, those from `at` on, to the front; answers how many bytes these are.

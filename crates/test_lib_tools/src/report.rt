@@ -1,6 +1,8 @@
 // Counts of rows that agree and rows that do not, and the lines that say so.
-use libc::STDOUT_FILENO;
 use std::num::wrapping_add_u64;
+
+// The file descriptor of standard output.
+const STDOUT_FILENO: i32 = 1;
 
 // Rows that agree, and in steps of 2^22 those in which a refusal is due, and in steps of 2^44 those that differ. No
 // group has 2^22 rows.

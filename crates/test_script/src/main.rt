@@ -3,11 +3,13 @@
 // data bins apart.
 #![tactic(auto)]
 
-use libc::STDOUT_FILENO;
 use lta_spec::{Started, Written};
 use script::input::run_bytes;
 use script::shape;
 use script_bytes::head;
+
+// The file descriptor of standard output.
+const STDOUT_FILENO: i32 = 1;
 
 // A script on a fresh run: its text goes into a buffer, and from there to standard output.
 fn play(s: &[u8]) {

@@ -3,37 +3,43 @@
 // every record.
 #![tactic(auto)]
 
-use libc::{STDIN_FILENO, STDOUT_FILENO};
 use lta_spec::Started;
 use script::input::run_input;
 use script::shape;
+use std::fs;
+use std::io::Read;
+use std::rt::Files;
 
-// A script from a file descriptor, through the block lent.
-fn stream(fd: i32, block: &mut [u8]) {
+// The file descriptor of standard output.
+const STDOUT_FILENO: i32 = 1;
+
+// A script from a reader, through the block lent.
+fn stream<R: Read>(input: &mut R, block: &mut [u8]) {
     let mut mem = [0u64; 108];
     let Started::Fresh = lta::setup(shape(), &mut mem) else {
         return;
     };
-    run_input(fd, &mut mem, block);
+    run_input(&mut *input, &mut mem, block);
 }
 
 // A script from a file, under the line that names it.
-fn file(name: &[u8]) {
+fn file<R: Files>(rt: &R, name: &str) {
     io::write_all(STDOUT_FILENO, b"-- ");
-    io::write_all(STDOUT_FILENO, name);
+    io::write_all(STDOUT_FILENO, name.as_bytes());
     io::write_all(STDOUT_FILENO, b"\n");
     let mut block = [0u8; 7];
-    let fd = os::open_read(name);
-    stream(fd, &mut block);
-    libc::close(fd);
+    let Ok(mut script) = fs::open(rt, name) else {
+        return;
+    };
+    stream(&mut script, &mut block);
 }
 
-fn main() {
+fn main(rt: HostRuntime) {
     let mut block = io::buffer();
-    stream(STDIN_FILENO, &mut block);
-    file(b"whole");
-    file(b"cut_record");
-    file(b"lone_letter");
-    file(b"unknown_mark");
-    file(b"many_blocks");
+    stream(&mut rt.stdin(), &mut block);
+    file(&rt, "whole");
+    file(&rt, "cut_record");
+    file(&rt, "lone_letter");
+    file(&rt, "unknown_mark");
+    file(&rt, "many_blocks");
 }

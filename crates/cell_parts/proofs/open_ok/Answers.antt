@@ -1,0 +1,7 @@
+-- Open's test, by its row and its stamp.
+use Rattle.cell_parts.proofs.PartLaws.{open-test}
+use Rattle.cell_parts.proofs.open_ok.Goals as goal
+
+pub returns : goal.returns
+returns c =
+    rw c.row_ok-row.ensures (open-test c.requires c.args.t)
