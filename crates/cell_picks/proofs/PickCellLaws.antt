@@ -20,6 +20,10 @@ use Rattle.cell_layout.proofs.LaysLaws.{word_of}
 use Rattle.cell_layout.proofs.Fields as F
 use Rattle.cell_layout.proofs.CellLaws.{laid, lists}
 
+-- is bin k Ready?
+abbrev pub ready_at : (n bins : ℕ) (cell : List ℕ) → ℕ → Bool
+ready_at n bins cell k = eqb (bin_at n k (places_of n bins cell)).state ready
+
 -- one Ready bin more at most
 pub one_more : (count k state after : ℕ) → count ≤ k → after ≡ count + cond (eqb state ready) 1 0 → after ≤ k + 1
 one_more count k state after low is = omega (arith, bit-small (eqb state ready))
