@@ -22,5 +22,6 @@ returns c =
     let zs = row_lags a.f.ticks xs in
     c.put_word.ensures
     ∙ body-put a.body.now a.f (lag_words zs) c.head_words-head.result (length xs) c.head_words-head.ensures.0
-    c.requires.0 (lags-below zs) (length-unbiased a.f.ticks xs) (omega (arith, c.head_words-head.ensures.0, c.requires.1))
+    c.requires.0 (lags-below zs) (length-unbiased a.f.ticks xs)
+    (omega (arith, c.head_words-head.ensures.0, c.requires.1))
     (rw c.put_header.ensures at c.put_sums.ensures) c.sum_words-sum.ensures

@@ -10,7 +10,8 @@ use Rattle.frame_emission.proofs.put_sums.Given as goal
 
 abbrev pub invariant-loop-i : goal.invariant-loop-i
 invariant-loop-i l =
-    (l.i ≤ length l.sums) × (l.s ≡ splice l.initial.s (4 * l.k) (bytes_of (take l.i (lag_words (row_lags l.ticks l.sums)))))
+    (l.i ≤ length l.sums)
+    × (l.s ≡ splice l.initial.s (4 * l.k) (bytes_of (take l.i (lag_words (row_lags l.ticks l.sums)))))
     × (length l.s ≡ length l.initial.s)
 
 abbrev pub decreases-loop-i : goal.decreases-loop-i
