@@ -2,7 +2,7 @@
  * what is open. Then more ticks come than an Open takes, and dumps planned by the forecast keep all of them. A loop of
  * picks sends every Ready bin, the cells in turn. A loss page ends it.
  *
- *   cc -std=c99 -Wall -Wextra -Werror -Iinclude examples/host.c target/staticlib/liblta_c.a -o target/host
+ *   cc -std=c99 -Wall -Wextra -Werror -Iinclude examples/host.c crates/lta_c/out/liblta_c.a -o target/host
  */
 #include <inttypes.h>
 #include <stdio.h>

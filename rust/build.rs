@@ -1,4 +1,4 @@
-//! Links the engine's static library, from `$LTA_LIB_DIR` or else from `target/staticlib` beside this directory.
+//! Links the engine's static library, from `$LTA_LIB_DIR` or else from `crates/lta_c/out` beside this directory.
 use std::env;
 use std::path::{Path, PathBuf};
 use std::process::exit;
@@ -8,7 +8,7 @@ const ARCHIVE: &str = "liblta_c.a";
 fn library_dir() -> PathBuf {
     match env::var_os("LTA_LIB_DIR") {
         Some(dir) => PathBuf::from(dir),
-        None => Path::new(env!("CARGO_MANIFEST_DIR")).join("../target/staticlib"),
+        None => Path::new(env!("CARGO_MANIFEST_DIR")).join("../crates/lta_c/out"),
     }
 }
 
@@ -19,7 +19,7 @@ fn main() {
     println!("cargo:rerun-if-changed={}", archive.display());
     if !archive.is_file() {
         eprintln!("{} is not there.", archive.display());
-        eprintln!("Run `rt staticlib lta_c` at the top of the repository, or set LTA_LIB_DIR to where {ARCHIVE} is.");
+        eprintln!("Run `rt lib` in crates/lta_c of the repository, or set LTA_LIB_DIR to where {ARCHIVE} is.");
         exit(1);
     }
     let dir = dir.canonicalize().expect("the directory of the archive");

@@ -107,11 +107,10 @@ signals() {
 # A copy of the command beside a stub of rt: what is said before, and where the proof fails.
 proofs() {
     at=$work/copy
-    mkdir -p "$at/crates/one" "$work/bin"
+    mkdir -p "$at/crates/one" "$at/crates/lta_run" "$work/bin"
     cp "$top/lta-run" "$at/"
     touch "$at/crates.txt"
-    printf '#!/bin/sh\nmkdir -p target/bin target/stamp && cp "%s" target/bin/ && touch target/stamp/lta_run\n' \
-        "$top/target/bin/lta_run" >"$work/bin/rt"
+    printf '#!/bin/sh\nmkdir -p out && cp "%s" out/\n' "$top/crates/lta_run/out/lta_run" >"$work/bin/rt"
     chmod +x "$work/bin/rt"
     PATH=$work/bin:$PATH
     lta_run </dev/null >"$work/out"

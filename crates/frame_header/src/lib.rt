@@ -1,5 +1,5 @@
-// The header words of a frame and its fields, the rules on fields that reader and writer share, and what a frame's kind
-// makes of its length.
+// The header words of a frame and its fields, the rules on fields that reader and writer share, and what a frame's
+// kind makes of its length.
 #![tactic(auto)]
 
 ghost use Rattle.std.specs.Prelude.{◌≡◌, true, ◌*◌, ◌≤◌, length};

@@ -25,7 +25,8 @@ module _ (l : List ℕ) (x y to n : ℕ) (p : Ready l x y to n) where
   row = lag_row n (entries_at n x l) (entries_at n y l) n 0
 
   -- the counts added, each word behind them has room for its term
-  fits : (i : ℕ) → i < 2 * n → get_or (splice l to (sums (part to 3 l) counts)) (to + 3 + i) 0 + get_or row i 0 < 2 ^ 64
+  fits : (i : ℕ) → i < 2 * n
+      → get_or (splice l to (sums (part to 3 l) counts)) (to + 3 + i) 0 + get_or row i 0 < 2 ^ 64
   fits i h =
       let behind = get_or-behind l to counts 3 i refl (omega (arith, p.to_in)) in
       rw behind

@@ -50,7 +50,8 @@ module _ (xs ys : List ℕ) (m : ℕ) where
       let jj : j ≡ g = omega arith in
       rw (ii, jj) (adds-last low (last turn_i) (last turn_q) k (omega arith)))
       (λ less.
-      adds-before low (last turn_i) (last turn_q) k (lag_term xs ys m i j turn_i) (lag_term xs ys m i j turn_q) (omega arith)
+      adds-before low (last turn_i) (last turn_q) k (lag_term xs ys m i j turn_i) (lag_term xs ys m i j turn_q)
+      (omega arith)
       (⊎_elim
       (λ e.
       let ii : i ≡ g = omega arith in

@@ -42,7 +42,8 @@ loop-i-preserved c =
     ∙ sym (get_or-map number_word zs i (pos 0)) in
     let step : c.put_word.new.s ≡ splice l (4 * a.k) (bytes_of (take (i + 1) (lag_words zs))) =
     c.put_word.ensures
-    ∙ rw (c.loop-i.invariant.1, w, add-one) (put_next l a.k (lag_words zs) i (omega (arith, length-map zs number_word))) in
+    ∙ rw (c.loop-i.invariant.1, w, add-one)
+    (put_next l a.k (lag_words zs) i (omega (arith, length-map zs number_word))) in
     (omega arith, step, rw step (length-splice l (4 * a.k) (bytes_of (take (i + 1) (lag_words zs)))))
 
 pub shape_of-s : goal.shape_of-s

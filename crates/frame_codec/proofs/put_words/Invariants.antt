@@ -8,7 +8,9 @@ use Rattle.frame_codec.proofs.put_words.Given as goal
 
 abbrev pub invariant-loop-i : goal.invariant-loop-i
 invariant-loop-i l =
-    (l.i ≤ length l.ws) × (l.s ≡ splice l.initial.s (4 * l.k) (bytes_of (take l.i l.ws))) × (length l.s ≡ length l.initial.s)
+    (l.i ≤ length l.ws)
+    × (l.s ≡ splice l.initial.s (4 * l.k) (bytes_of (take l.i l.ws)))
+    × (length l.s ≡ length l.initial.s)
 
 abbrev pub decreases-loop-i : goal.decreases-loop-i
 decreases-loop-i l = length l.ws - l.i

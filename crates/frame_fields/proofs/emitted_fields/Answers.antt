@@ -32,17 +32,17 @@ overflow_cast-centre c = omega (arith, fine (goal.at.overflow_cast-centre c).Sta
 pub block_of-block-requires : goal.block_of-block-requires
 unfolding emitted_fields
 block_of-block-requires c =
-    ((shape (goal.at.block_of-block-requires c).Start).some-blocks, (fine (goal.at.block_of-block-requires c).Start).block)
+    let s = (goal.at.block_of-block-requires c).Start in ((shape s).some-blocks, (fine s).block)
 
 pub second_of-second-requires : goal.second_of-second-requires
 unfolding emitted_fields
 second_of-second-requires c =
-    ((shape (goal.at.second_of-second-requires c).Start).some-rate, (fine (goal.at.second_of-second-requires c).Start).second)
+    let s = (goal.at.second_of-second-requires c).Start in ((shape s).some-rate, (fine s).second)
 
 pub offset_of-offset-requires : goal.offset_of-offset-requires
 unfolding emitted_fields
 offset_of-offset-requires c =
-    ((shape (goal.at.offset_of-offset-requires c).Start).some-rate, (fine (goal.at.offset_of-offset-requires c).Start).offset)
+    let s = (goal.at.offset_of-offset-requires c).Start in ((shape s).some-rate, (fine s).offset)
 
 pub overflow_cast-result : goal.overflow_cast-result
 unfolding emitted_fields

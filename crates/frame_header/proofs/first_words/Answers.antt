@@ -13,7 +13,7 @@ overflow_mul-w0 c = omega (arith, sound (goal.at.overflow_mul-w0 c).Start)
 
 pub overflow_add-w0 : goal.overflow_add-w0
 overflow_add-w0 c =
-    omega (arith, sound (goal.at.overflow_add-w0 c).Start, kind-small c.args.f.kind (sound (goal.at.overflow_add-w0 c).Start).kind)
+    let valid = sound (goal.at.overflow_add-w0 c).Start in omega (arith, valid, kind-small c.args.f.kind valid.kind)
 
 pub overflow_mul-w1 : goal.overflow_mul-w1
 overflow_mul-w1 c = omega (arith, sound (goal.at.overflow_mul-w1 c).Start)

@@ -10,4 +10,5 @@ returns-then-bytes-frame_length c = rw (eq-eqb _ _ (c.if-bytes-frame_length.true
 
 pub returns-else-bytes-frame_length : goal.returns-else-bytes-frame_length
 unfolding length_kind
-returns-else-bytes-frame_length c = rw (ne_eqb _ _ (λ e. c.if-bytes-frame_length.false (e ∙ sym c.frame_length.ensures)))
+returns-else-bytes-frame_length c =
+    rw (ne_eqb _ _ (λ e. c.if-bytes-frame_length.false (e ∙ sym c.frame_length.ensures)))

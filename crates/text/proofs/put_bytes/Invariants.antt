@@ -7,7 +7,8 @@ use Rattle.text.proofs.put_bytes.Given as goal
 
 abbrev pub invariant-loop-i : goal.invariant-loop-i
 invariant-loop-i l =
-    (l.i ≤ length l.bytes) × (l.out ≡ splice l.initial.out l.at (take l.i l.bytes)) × (length l.out ≡ length l.initial.out)
+    (l.i ≤ length l.bytes) × (l.out ≡ splice l.initial.out l.at (take l.i l.bytes))
+    × (length l.out ≡ length l.initial.out)
 
 abbrev pub decreases-loop-i : goal.decreases-loop-i
 decreases-loop-i l = length l.bytes - l.i

@@ -10,4 +10,8 @@ pub returns : goal.returns
 returns c =
     let a = c.args in
     let start : c.put_digits.result ≡ a.at =
-    omega (arith, c.put_digits.ensures.starts, c.digits.ensures) in record { behind = ap (λ k. a.at + k) c.digits.ensures; leaves = c.put_digits.ensures.leaves ∙ ap (λ k. splice a.out.now k (decimal a.n)) start }
+    omega (arith, c.put_digits.ensures.starts, c.digits.ensures) in
+    record {
+      behind = ap (λ k. a.at + k) c.digits.ensures;
+      leaves = c.put_digits.ensures.leaves ∙ ap (λ k. splice a.out.now k (decimal a.n)) start;
+    }
