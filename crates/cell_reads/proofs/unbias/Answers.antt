@@ -18,8 +18,11 @@ read : (c : Start)
 read c = rw (to_z_pos w64 {n = c.args.stored} (omega arith), to_z_pos w64 {n = peak * c.args.ticks} (omega arith))
 
 pub overflow_sub-result : goal.overflow_sub-result
-overflow_sub-result c = rw (read (goal.at.overflow_sub-result c).Start) (difference c.args.stored (peak * c.args.ticks) (omega arith) (omega arith))
+overflow_sub-result c =
+    rw (read (goal.at.overflow_sub-result c).Start)
+    (difference c.args.stored (peak * c.args.ticks) (omega arith) (omega arith))
 
 pub returns : goal.returns
 returns c =
-    rw (read (goal.at.returns c).Start) (to_z-of_z (difference c.args.stored (peak * c.args.ticks) (omega arith) (omega arith)))
+    rw (read (goal.at.returns c).Start)
+    (to_z-of_z (difference c.args.stored (peak * c.args.ticks) (omega arith) (omega arith)))

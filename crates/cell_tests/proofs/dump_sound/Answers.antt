@@ -46,12 +46,14 @@ returns-then-cell-eq1 c =
     let a = c.args in
     let w = places_of a.n a.bins a.cell.now in
     rw (c.loss_holds-then-cell-eq1.ensures, open-ticks c.requires)
-    (sound-overrun a.n a.bins a.t a.command w (parts (goal.at.returns-then-cell-eq1 c).Else-not-dump_parts) (loses (goal.at.returns-then-cell-eq1 c).Else-loses_none)
+    (sound-overrun a.n a.bins a.t a.command w (parts (goal.at.returns-then-cell-eq1 c).Else-not-dump_parts)
+    (loses (goal.at.returns-then-cell-eq1 c).Else-loses_none)
     c.if-command-eq-DISCARD.false (sym (occupied-is c.requires) ∙ c.if-cell-eq1.true))
 
 pub returns : goal.returns
 returns c =
     let a = c.args in
     let w = places_of a.n a.bins a.cell.now in
-    sound-held a.n a.bins a.t a.command w (parts (goal.at.returns c).Else-not-dump_parts) (loses (goal.at.returns c).Else-loses_none)
+    sound-held a.n a.bins a.t a.command w (parts (goal.at.returns c).Else-not-dump_parts)
+    (loses (goal.at.returns c).Else-loses_none)
     c.if-command-eq-DISCARD.false (λ o. c.if-cell-eq1.false (occupied-is c.requires ∙ o))
