@@ -26,7 +26,8 @@ module _ {l : List ℕ} {n bins : ℕ} (f : Fits l n bins) where
   held_test t =
       rw (held-ticks f, row_of (laid f) (F.held_row n bins), word_of (laid f) (F.held_stamp n bins), occupied-is f)
 
-  pub label-test : leb (get_or l command_at 0) last && (ltb (get_or l bank_at 0) 2 && ltb (get_or l data_bin_at 0) bins)
+  pub label-test : leb (get_or l command_at 0) last
+      && (ltb (get_or l bank_at 0) 2 && ltb (get_or l data_bin_at 0) bins)
       ≡ label_ok bins (places_of n bins l).held.label
   label-test =
       rw

@@ -11,7 +11,8 @@ use Rattle.lta_spec.specs.Row.{empty_row}
 use Rattle.lta_spec.specs.Layout.{Layout, word, block, pair, many}
 use Rattle.lta_spec.specs.Engine.{Row, Unit, stamped, loss_at, free_bin, bin_at, fresh_unit}
 use Rattle.lta_spec.specs.Memory.{of_bin, to_bin, bin_layout, RowParts, PickParts, CounterParts, CellParts}
-use Rattle.lta_spec.specs.Memory.{rows_of, picks_of, counter_of, of_unit, to_unit, unit_layout, of_run, to_run, run_layout}
+use Rattle.lta_spec.specs.Memory.{rows_of, picks_of, counter_of, of_unit, to_unit, unit_layout}
+use Rattle.lta_spec.specs.Memory.{of_run, to_run, run_layout}
 use Rattle.lta_spec.specs.Step.{unit_at}
 use Rattle.lta_spec.specs.declared.Shape.{Shape}
 use Rattle.lta_spec.proofs.LayoutLaws.{Law, Any, Long, Each, word-law, block-law, many-law}
@@ -164,7 +165,8 @@ module _ (n bins : ℕ) where
       (λ u v. let x = u.cell.held.label in
       with_label u (record { command = x.command; bank = v; bin = x.bin }))
   unfolding unit_layout word
-  bank = named (via of_unit to_unit (λ y. refl) (past word-law (past word-law (here word-law (data_bin_layout n bins)))))
+  bank =
+      named (via of_unit to_unit (λ y. refl) (past word-law (past word-law (here word-law (data_bin_layout n bins)))))
       (omega arith)
 
   pub data_bin : Field (unit_layout n bins) word Any data_bin_at (λ u. u.cell.held.label.bin)
@@ -185,7 +187,8 @@ module _ (n bins : ℕ) where
       (λ u v. with_content u (stamped u.cell.held.content.members v))
   unfolding unit_layout word
   held_stamp = named (via of_unit to_unit (λ y. refl)
-      (past word-law (past word-law (past word-law (past word-law (past word-law (here word-law (block_layout n bins))))))))
+      (past word-law (past word-law (past word-law (past word-law
+      (past word-law (here word-law (block_layout n bins))))))))
       (omega arith)
 
   -- the block counter and what is behind it
@@ -318,7 +321,8 @@ module _ (sh : Shape) where
   cells-law : Law cells_layout (Each sh.cells (UnitOk sh.lags sh.bins))
   cells-law = many-law (unit-law sh.lags sh.bins) sh.cells
 
-  pub time : Field (run_layout sh) word Any time_at (λ r. r.t) (λ r v. record { t = v; next = r.next; units = r.units })
+  pub time : Field (run_layout sh) word Any time_at (λ r. r.t)
+      (λ r v. record { t = v; next = r.next; units = r.units })
   unfolding run_layout
   time = via of_run to_run (λ y. refl) (here word-law (pair cells_layout word))
 

@@ -40,8 +40,8 @@ module _ (limit : ℕ) (r : List ℕ) (ok : row_ok limit r ≡ true) where
       let c = and-le (get_or r 2 0) (ticks_of r) _ b.1 in
       at b.0 c.0 c.1 i h
     where
-      at : get_or r 1 0 ≤ ticks_of r → get_or r 2 0 ≤ ticks_of r → every (sum_ok (ticks_of r)) (drop 3 r) ≡ true → (i : ℕ)
-          → i < length r → get_or r i 0 ≤ 2 * peak * ticks_of r
+      at : get_or r 1 0 ≤ ticks_of r → get_or r 2 0 ≤ ticks_of r → every (sum_ok (ticks_of r)) (drop 3 r) ≡ true
+          → (i : ℕ) → i < length r → get_or r i 0 ≤ 2 * peak * ticks_of r
       at b c e zero h = omega arith
       at b c e (suc zero) h = omega arith
       at b c e (suc (suc zero)) h = omega arith
@@ -56,7 +56,8 @@ module _ (limit : ℕ) (r : List ℕ) (ok : row_ok limit r ≡ true) where
   pub clear : ticks_of r ≡ 0 → r ≡ zeros (length r)
   clear z =
       ext_get_or 0 r (zeros (length r)) (sym (length-replicate (length r) 0))
-      (λ i h. let k : get_or r i 0 ≡ 0 = omega (arith, word-within i h) in k ∙ sym (get_or-replicate (length r) i 0 0 h))
+      (λ i h. let k : get_or r i 0 ≡ 0 = omega (arith, word-within i h) in
+      k ∙ sym (get_or-replicate (length r) i 0 0 h))
 
   pub small_row : limit ≤ run_limit → Small r
   small_row h i =

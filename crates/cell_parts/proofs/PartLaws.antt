@@ -64,7 +64,8 @@ module _ {l : List ℕ} {n bins : ℕ} (f : Fits l n bins) where
     loss-ticks = row_first (laid f) (F.loss n bins i h) (omega arith)
 
     -- room in a loss, by its word
-    pub loss-over : (more : ℕ) → run_limit < get_or l (loss_row_at n i) 0 → false ≡ loss_holds n i more (places_of n bins l)
+    pub loss-over : (more : ℕ) → run_limit < get_or l (loss_row_at n i) 0
+        → false ≡ loss_holds n i more (places_of n bins l)
     loss-over more k = rw (← loss-ticks) (sum_over _ more run_limit k)
 
     pub loss-within : (more : ℕ) → get_or l (loss_row_at n i) 0 ≤ run_limit

@@ -26,7 +26,8 @@ shifted_at l n at entry = splice l at (take (depth n) (entry ∷ part at (depth 
 
 module _ (n bins : ℕ) {l : List ℕ} {u : Unit} (s : Lays (unit_layout n bins) l u) where
   -- the registers move, X and then Y
-  pub lays-shift : (x y : ℕ) → Lays (unit_layout n bins) (shifted_at (shifted_at l n (xs_at n) x) n (ys_at n) y) (moved n x y u)
+  pub lays-shift : (x y : ℕ)
+      → Lays (unit_layout n bins) (shifted_at (shifted_at l n (xs_at n) x) n (ys_at n) y) (moved n x y u)
   lays-shift x y =
       let a : Lays (unit_layout n bins) (shifted_at l n (xs_at n) x)
       (record {

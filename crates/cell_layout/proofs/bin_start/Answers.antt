@@ -19,4 +19,5 @@ overflow_add-result-5 c = omega (arith, there (goal.at.overflow_add-result-5 c).
 
 pub returns : goal.returns
 returns c =
-    record { is = omega (arith, there (goal.at.returns c).After-y_register); inside = omega (arith, there (goal.at.returns c).After-y_register); small = (there (goal.at.returns c).After-y_register).small }
+    let at = there (goal.at.returns c).After-y_register in
+    record { is = omega (arith, at); inside = omega (arith, at); small = at.small }

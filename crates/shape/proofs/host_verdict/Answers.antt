@@ -21,9 +21,11 @@ memory_words-requires c = fine (goal.at.memory_words-requires c).Else-not-shape_
 pub returns-then-words-memory_words : goal.returns-then-words-memory_words
 unfolding host_tests
 returns-then-words-memory_words c =
-    rw (fine (goal.at.returns-then-words-memory_words c).Else-not-shape_ok, ← c.memory_words.ensures.0, ne_eqb _ _ c.if-words-memory_words.true)
+    let passed = fine (goal.at.returns-then-words-memory_words c).Else-not-shape_ok in
+    rw (passed, ← c.memory_words.ensures.0, ne_eqb _ _ c.if-words-memory_words.true)
 
 pub returns : goal.returns
 unfolding host_tests
 returns c =
-    rw (fine (goal.at.returns c).Else-not-shape_ok, ← c.memory_words.ensures.0, eq-eqb _ _ c.if-words-memory_words.false)
+    let passed = fine (goal.at.returns c).Else-not-shape_ok in
+    rw (passed, ← c.memory_words.ensures.0, eq-eqb _ _ c.if-words-memory_words.false)

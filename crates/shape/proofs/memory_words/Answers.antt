@@ -23,4 +23,6 @@ overflow_add-result c = omega (arith, few (goal.at.overflow_add-result c).After-
 
 pub returns : goal.returns
 unfolding memory_words
-returns c = let s = c.args.s in (ap (λ k. 2 + s.cells * k) c.cell_words.ensures.0, omega (arith, few (goal.at.returns c).After-cell_words))
+returns c =
+    let s = c.args.s in
+    (ap (λ k. 2 + s.cells * k) c.cell_words.ensures.0, omega (arith, few (goal.at.returns c).After-cell_words))
