@@ -90,5 +90,6 @@ module _ (s : Shape) (mem : List ℕ) (c bank bin : ℕ) (out : List ℕ) (q : E
       refl q.cell.there q.named.banked q.named.numbered size (omega arith) q.limited
       (and_both (D.content_ok bin_limit (run_of s mem).t content) _ q.sound).0)
 
-  pub frame_is : S.row_frame s accumulated c bank bin (stamped lent_row lent_stamp) ≡ frame_at s c bank bin (run_of s mem)
+  pub frame_is : S.row_frame s accumulated c bank bin (stamped lent_row lent_stamp)
+      ≡ frame_at s c bank bin (run_of s mem)
   frame_is = ap₂ (λ x y. S.row_frame s accumulated c bank bin (stamped x y)) row_is stamp-is

@@ -1,4 +1,5 @@
--- A speed dump that is not refused: when it may go on, the data bin that its frame names, and what it leaves of a cell.
+-- A speed dump that is not refused: when it may go on, the data bin that its frame names, and what it leaves of a
+-- cell.
 use Rattle.std.specs.Prelude.{◌≡◌, true, List, ℕ, ◌+◌, ◌*◌, ◌<◌, ◌≤◌, length}
 use Rattle.lta_spec.specs.Shape.{shape_ok, run_limit}
 use Rattle.lta_spec.specs.Frame.{speed_frame, frame_length}
