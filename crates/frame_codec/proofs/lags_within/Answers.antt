@@ -26,7 +26,7 @@ loop-i-preserved c =
     let zs = c.args.lags.now in
     let b = c.args.b in
     let i = c.loop-i.i in
-    let fits : SFits w32 (get_or zs i (pos 0)) = record { sfits = c.x-1.given } in
+    let fits : SFits w32 (get_or zs i (pos 0)) = record { sfits = omega arith } in
     let near : c.word_within-near.result ≡ within b (get_or zs i (pos 0)) =
     c.word_within-near.ensures
     ∙ ap (within b)

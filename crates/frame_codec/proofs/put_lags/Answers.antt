@@ -1,4 +1,4 @@
-use Rattle.std.proofs.Common.{◌≡◌, ◌+◌, ◌-◌, ◌*◌, ◌≤◌, length, get_or, take, pos, sym, refl, ap, ◌∙◌, add-one, arith, take_all, w32, SFits}
+use Rattle.std.proofs.Common.{◌≡◌, ◌+◌, ◌*◌, get_or, take, pos, sym, refl, ap, ◌∙◌, add-one, arith, take_all, w32, SFits}
 use mir.ValLaws.{to_z-of_z}
 use lib.ListN.{length-map, get_or-map}
 use Rattle.lta_spec.specs.Words.{splice}
@@ -35,7 +35,7 @@ loop-i-preserved c =
     let l = a.s.now in
     let zs = a.lags.now in
     let i = c.loop-i.i in
-    let fits : SFits w32 (get_or zs i (pos 0)) = record { sfits = c.x-1.given } in
+    let fits : SFits w32 (get_or zs i (pos 0)) = record { sfits = omega arith } in
     let w : c.word_of-w.result ≡ get_or (lag_words zs) i 0 =
     c.word_of-w.ensures
     ∙ ap number_word (to_z-of_z w32 _ fits)

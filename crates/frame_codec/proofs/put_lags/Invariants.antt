@@ -1,12 +1,8 @@
 -- The loop has put the words of the first i numbers.
-use Rattle.std.proofs.Common.{◌≡◌, ◌+◌, ◌-◌, ◌*◌, ◌≤◌, length, get_or, take, pos, sym, refl, ap, ◌∙◌, add-one, arith, take_all, w32, SFits}
-use mir.ValLaws.{to_z-of_z}
-use lib.ListN.{length-map, get_or-map}
+use Rattle.std.proofs.Common.{◌≡◌, ◌-◌, ◌*◌, ◌≤◌, length, take}
 use Rattle.lta_spec.specs.Words.{splice}
-use Rattle.lta_spec.proofs.WordLaws.{splice-nil, length-splice}
-use Rattle.lta_spec.specs.Bytes.{bytes_of, number_word}
+use Rattle.lta_spec.specs.Bytes.{bytes_of}
 use Rattle.lta_spec.specs.Frame.{lag_words}
-use Rattle.frame_codec.proofs.Laws.{put_next}
 use Rattle.frame_codec.proofs.put_lags.Given as goal
 
 abbrev pub invariant-loop-i : goal.invariant-loop-i

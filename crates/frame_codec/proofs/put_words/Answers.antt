@@ -1,4 +1,4 @@
-use Rattle.std.proofs.Common.{◌≡◌, ◌+◌, ◌-◌, ◌*◌, ◌≤◌, length, take, sym, refl, ◌∙◌, add-one, arith, take_all}
+use Rattle.std.proofs.Common.{◌≡◌, ◌+◌, ◌*◌, take, sym, refl, ◌∙◌, add-one, arith, take_all}
 use Rattle.lta_spec.specs.Words.{splice}
 use Rattle.lta_spec.proofs.WordLaws.{splice-nil, length-splice}
 use Rattle.lta_spec.specs.Bytes.{bytes_of}

@@ -1,9 +1,7 @@
 -- The loop has put the first i words.
-use Rattle.std.proofs.Common.{◌≡◌, ◌+◌, ◌-◌, ◌*◌, ◌≤◌, length, take, sym, refl, ◌∙◌, add-one, arith, take_all}
+use Rattle.std.proofs.Common.{◌≡◌, ◌-◌, ◌*◌, ◌≤◌, length, take}
 use Rattle.lta_spec.specs.Words.{splice}
-use Rattle.lta_spec.proofs.WordLaws.{splice-nil, length-splice}
 use Rattle.lta_spec.specs.Bytes.{bytes_of}
-use Rattle.frame_codec.proofs.Laws.{put_next}
 use Rattle.frame_codec.proofs.put_words.Given as goal
 
 abbrev pub invariant-loop-i : goal.invariant-loop-i

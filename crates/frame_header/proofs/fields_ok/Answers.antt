@@ -9,5 +9,5 @@ use Rattle.frame_header.proofs.fields_ok.Goals as goal
 pub returns : goal.returns
 unfolding fields_ok
 returns c =
-    let narrow : c.args.f.second ≤ 4294967295 = omega (arith, c.struct_known-10-1.given) in
+    let narrow : c.args.f.second ≤ 4294967295 = omega arith in
     rw (le-leb c.args.f.second 4294967295 narrow) (simp (and_assoc, and-true))
