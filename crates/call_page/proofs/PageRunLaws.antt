@@ -97,7 +97,8 @@ module _ (n B : ℕ) (us : List Unit) (ok : All (UnitOk n B) us) (few : length u
     ledger-next : ledger us (suc c) ≡ ledger us c ++ here ∷ []
     ledger-next = ap (map S.loss_counts) (take-suc us c d more) ∙ map-append S.loss_counts (take c us) _
 
-    pub totals-next : counts_sum (joined (ledger us (suc c))) ≡ added (counts_sum (joined (ledger us c))) (counts_sum here)
+    pub totals-next : counts_sum (joined (ledger us (suc c)))
+        ≡ added (counts_sum (joined (ledger us c))) (counts_sum here)
     totals-next =
         ap (λ z. counts_sum (joined z)) ledger-next
         ∙ ap counts_sum (joined-append (ledger us c) (here ∷ []))

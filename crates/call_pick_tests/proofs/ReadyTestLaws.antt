@@ -1,7 +1,8 @@
 -- The cell that a pick takes is one of the run's, and the run's place among the tests of 11.
 use mathlib.Core.Path.{◌≡◌, refl, sym, ◌∙◌}
 use mathlib.Core.Bool.{Bool, true, false, cond, ◌&&◌, and-true}
-use Prim.Native.Nat.{◌<◌}
+use mathlib.Core.List.{List}
+use Prim.Native.Nat.{ℕ, ◌<◌}
 use Rattle.lta_spec.specs.Memory.{Run}
 use Rattle.lta_spec.specs.Step as S
 use Rattle.lta_spec.specs.declared.Shape.{Shape}
@@ -9,6 +10,11 @@ use Rattle.lta_spec.specs.declared.Refusal.TheVariants.{Damaged}
 use Rattle.lta_spec.specs.declared.Verdict.{Verdict}
 use Rattle.lta_spec.specs.declared.Verdict.TheVariants.{Refused}
 use Rattle.lta_spec.proofs.PickLaws.{seek-below}
+use Rattle.call_run.specs.Runs.{run_of}
+
+-- has cell c a Ready bin?
+abbrev pub ready_in : Shape → (mem : List ℕ) → ℕ → Bool
+ready_in s mem c = S.some_ready s c (run_of s mem)
 
 pub cell_below : (s : Shape) (r : Run) → r.next < s.cells → S.picked_cell s r < s.cells
 unfolding S.picked_cell

@@ -32,7 +32,8 @@ module _ (s : Shape) (mem : List ℕ) (h : Hosted s mem) where
   pub length-is : length mem ≡ memory_words s
   unfolding host_tests
   length-is =
-      eqb-true (length mem) (memory_words s) (pass (eqb (length mem) (memory_words s)) _ _ (pass (shape_ok s) _ _ h).1).0
+      eqb-true (length mem) (memory_words s)
+      (pass (eqb (length mem) (memory_words s)) _ _ (pass (shape_ok s) _ _ h).1).0
 
   pub shape_is : Shaped s
   shape_is = shaped s shape-ok

@@ -20,7 +20,8 @@ pub tested-as : (r : Refusal) {ok ok' : Bool} {v v' w : Verdict} → w ≡ cond 
 tested-as r g d e = rw (← d, ← e) g
 
 -- 11: t, and what f says of it
-pub sound-as : (f : ℕ → Bool) {t t' : ℕ} {x : Bool} → t ≡ t' → x ≡ f t → leb t run_limit && x ≡ leb t' run_limit && f t'
+pub sound-as : (f : ℕ → Bool) {t t' : ℕ} {x : Bool} → t ≡ t' → x ≡ f t
+    → leb t run_limit && x ≡ leb t' run_limit && f t'
 sound-as f {t} e d = rw (← e) (ap (λ y. leb t run_limit && y) d)
 
 -- and of a cell, by its words

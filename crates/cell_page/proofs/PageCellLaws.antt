@@ -99,5 +99,6 @@ module _ (ls : List Row) (ok : every (row_ok run_limit) ls ≡ true) where
         ∙ joined-append (cell_lines c 0 counts) (cell_lines c (0 + length counts) (k ∷ []))
         ∙ ap (λ j. joined (cell_lines c 0 counts) ++ joined (cell_lines c j (k ∷ []))) here
         ∙ ap (λ z. joined (cell_lines c 0 counts) ++ z) (one_line c i k) in
-        splice-behind before at (joined (cell_lines c 0 counts)) (loss_line c i k) refl (omega (arith, lines-size)) refl
+        splice-behind before at (joined (cell_lines c 0 counts)) (loss_line c i k) refl
+        (omega (arith, lines-size)) refl
         ∙ ap (splice before at) (sym all)

@@ -1,5 +1,5 @@
--- What crosses the boundary to C: a shape and the fields of a frame come as numbers in a slice; an answer leaves as one
--- number, or as that and numbers in a slice that was lent.
+-- What crosses the boundary to C: a shape and the fields of a frame come as numbers in a slice; an answer leaves as
+-- one number, or as that and numbers in a slice that was lent.
 use Rattle.std.specs.Prelude.{ℕ, suc, ◌*◌, Bool, cond, List, [], ◌∷◌, eqb, ℤ, Float, length, get_or, set}
 use Rattle.lta_spec.specs.Answer.{Answer, refusal}
 use Rattle.lta_spec.specs.Answer.Answer.{refused, number, entry, fields, normal, no_data}
