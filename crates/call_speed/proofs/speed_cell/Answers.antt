@@ -6,10 +6,10 @@ use Rattle.lta_spec.specs.Words.{splice}
 use Rattle.cell_block.proofs.CounterLaws.{still-fits}
 use Rattle.call_speed.proofs.SpeedLaws.{counter-sound, open-emits, frame_is, unit-sent}
 use Rattle.call_speed.proofs.speed_cell.Goals as goal
-use Rattle.call_speed.proofs.speed_cell.Goals.{After-struct_known-1}
+use Rattle.call_speed.proofs.speed_cell.Goals.{After-count_block-offset}
 
 -- the data bin is one of few
-numbered : (c : After-struct_known-1)
+numbered : (c : After-count_block-offset)
     → let a = c.args in
     a.phase * a.s.blocks + c.count_block-offset.result < 1000
 numbered c =
@@ -20,10 +20,10 @@ count_block-offset-requires c =
     ((c.requires.0, omega arith), counter-sound c.requires.1)
 
 pub overflow_mul-bin : goal.overflow_mul-bin
-overflow_mul-bin c = omega (arith, numbered (goal.at.overflow_mul-bin c).After-struct_known-1)
+overflow_mul-bin c = omega (arith, numbered (goal.at.overflow_mul-bin c).After-count_block-offset)
 
 pub overflow_add-bin : goal.overflow_add-bin
-overflow_add-bin c = omega (arith, numbered (goal.at.overflow_add-bin c).After-struct_known-1)
+overflow_add-bin c = omega (arith, numbered (goal.at.overflow_add-bin c).After-count_block-offset)
 
 pub put_frame-requires : goal.put_frame-requires
 put_frame-requires c =

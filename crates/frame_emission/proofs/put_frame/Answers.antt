@@ -15,9 +15,9 @@ use Rattle.lta_spec.proofs.WordLaws.{length-splice}
 use Rattle.frame_codec.proofs.FrameStores.{rest-lent, marked_out, tail-lent, tail-back, frame-left}
 use Rattle.frame_fields.specs.Emits.{fields_from}
 use Rattle.frame_emission.proofs.put_frame.Goals as goal
-use Rattle.frame_emission.proofs.put_frame.Goals.{After-slice_known-2-1}
+use Rattle.frame_emission.proofs.put_frame.Goals.{After-put_body}
 
-left : (c : After-slice_known-2-1)
+left : (c : After-put_body)
     → let a = c.args in
     let out = marked_out a.out.now in
     put_mid 2 (length out - 2) out c.put_body.new.body
@@ -57,8 +57,8 @@ pub shape_of-out : goal.shape_of-out
 unfolding marked_out
 shape_of-out c =
     let a = c.args in
-    ap length (left (goal.at.shape_of-out c).After-slice_known-2-1) ∙ length-splice a.out.now 0 _
+    ap length (left (goal.at.shape_of-out c).After-put_body) ∙ length-splice a.out.now 0 _
 
 pub returns : goal.returns
 unfolding marked_out
-returns c = left (goal.at.returns c).After-slice_known-2-1
+returns c = left (goal.at.returns c).After-put_body

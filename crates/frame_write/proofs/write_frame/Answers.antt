@@ -14,7 +14,7 @@ use Rattle.lta_spec.proofs.WordLaws.{length-splice}
 use Rattle.lta_spec.proofs.RoundTrips.{Writes, writes, count_small}
 use Rattle.frame_codec.proofs.FrameStores.{marked_out, tail-lent, tail-back, frame-left}
 use Rattle.frame_write.proofs.write_frame.Goals as goal
-use Rattle.frame_write.proofs.write_frame.Goals.{After-slice_known-in-Accepted-1, In-Accepted}
+use Rattle.frame_write.proofs.write_frame.Goals.{After-put_body, In-Accepted}
 
 told : (c : In-Accepted)
     → let a = c.args in
@@ -33,7 +33,7 @@ room c = omega (arith, (fine c).fits)
 small : (c : In-Accepted) → c.args.n ≤ 128
 small c = count_small c.args.n (fine c).count
 
-left : (c : After-slice_known-in-Accepted-1) → 2 ≤ length c.args.out.now
+left : (c : After-put_body) → 2 ≤ length c.args.out.now
     → let a = c.args in
     let out = marked_out a.out.now in
     put_mid 2 (length out - 2) out c.put_body.new.body
@@ -79,7 +79,7 @@ unfolding marked_out
 shape_of-out c =
     let a = c.args in
     let at = goal.at.shape_of-out c in
-    ap length (left at.After-slice_known-in-Accepted-1 (room at.In-Accepted))
+    ap length (left at.After-put_body (room at.In-Accepted))
     ∙ length-splice a.out.now 0 (frame_of (header a.f) (lag_words a.lags.now))
 
 pub returns-in-Accepted : goal.returns-in-Accepted
@@ -89,5 +89,5 @@ returns-in-Accepted c =
     rw (told at.In-Accepted)
     record {
       answer = ap number c.frame_length.ensures;
-      leaves = left at.After-slice_known-in-Accepted-1 (room at.In-Accepted);
+      leaves = left at.After-put_body (room at.In-Accepted);
     }
