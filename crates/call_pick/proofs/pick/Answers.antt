@@ -10,7 +10,6 @@ use Rattle.call_run.proofs.RunLaws.{shape_is}
 use Rattle.call_run.proofs.StepLaws.{done}
 use Rattle.call_pick.specs.Picking.{PicksFrom}
 use Rattle.call_pick.proofs.PickRunLaws.{picks}
-use borrow.Author.Rules.{rules}
 use Rattle.call_pick.proofs.pick.Goals as goal
 use Rattle.call_pick.proofs.pick.Goals.{In-Accepted}
 
@@ -35,16 +34,16 @@ frame_length-requires c =
 
 pub returns-in-Refused : goal.returns-in-Refused
 unfolding step
-returns-in-Refused c =
-    rw (← sym c.in-Refused.is ∙ c.pick_verdict.ensures) (record { answer = refl; frame = refl; leaves = refl })
+returns-in-Refused c = rw (← sym c.in-Refused.is ∙ c.pick_verdict.ensures) record { answer = refl; frame = refl; leaves = refl }
 
 pub returns-in-Accepted : goal.returns-in-Accepted
 unfolding accepted picks_bin emits sends
 returns-in-Accepted c =
     let a = c.args in
     let sent = c.pick_bin.ensures in
-    rw (done a.s a.mem.now (pick a.out.now) (accepting (goal.at.returns-in-Accepted c).In-Accepted)) (record {
+    rw (done a.s a.mem.now (pick a.out.now) (accepting (goal.at.returns-in-Accepted c).In-Accepted))
+    record {
       answer = ap number c.frame_length.ensures;
-      frame = sent.0;
-      leaves = lays-put (run-law a.s) sent.1;
-    })
+      frame = sent.frame;
+      leaves = lays-put (run-law a.s) sent.leaves;
+    }
