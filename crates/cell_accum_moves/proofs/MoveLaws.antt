@@ -17,7 +17,8 @@ use Rattle.lta_spec.specs.Memory.{unit_layout}
 use Rattle.words.specs.Moves.{Folds, folded}
 use Rattle.words.proofs.MoveLaws.{length-folded}
 use Rattle.cell_layout.specs.Lays.{Lays}
-use Rattle.cell_layout.specs.Offsets.{occupied_at, held_stamp_at, held_row_at, loss_row_at, state_at, stamp_at, bin_row_at}
+use Rattle.cell_layout.specs.Offsets.{occupied_at, held_stamp_at, held_row_at, loss_row_at}
+use Rattle.cell_layout.specs.Offsets.{state_at, stamp_at, bin_row_at}
 use Rattle.cell_layout.specs.Cells.{Fits, Small, unit_of, places_of, with_places}
 use Rattle.cell_layout.proofs.LaysLaws.{word_of, row-length, lays-set, lays-move}
 use Rattle.cell_layout.proofs.Fields as F

@@ -41,7 +41,8 @@ module _ (n bins k : ℕ) (j : k < 2 * bins) (u : Unit) (long : k < length u.cel
   unfolding bin_at
   lays-start s = rw (set-get_or u.cell.bins k (free_bin n)) s
 
-  module _ {l : List ℕ} {h : Held Row} {ls : List Row} (b : Bin Row) (s : Lays (unit_layout n bins) l (with' u h ls k b))
+  module _ {l : List ℕ} {h : Held Row} {ls : List Row} (b : Bin Row)
+      (s : Lays (unit_layout n bins) l (with' u h ls k b))
     where
       pub same : bin_at n k (with' u h ls k b).cell ≡ b
       unfolding bin_at
@@ -101,7 +102,8 @@ module _ {l : List ℕ} {n bins : ℕ} (f : Fits l n bins) (k : ℕ) (j : k < 2 
 
   pub bin-test : (t : ℕ)
       → (row_ok bin_limit (part (bin_row_at n k) (row_words n) l) && leb (get_or l (stamp_at n k) 0) t)
-      && (leb (get_or l (state_at n k) 0) ready && (leb 1 (get_or l (state_at n k) 0) || eqb (get_or l (bin_row_at n k) 0) 0))
+      && (leb (get_or l (state_at n k) 0) ready
+      && (leb 1 (get_or l (state_at n k) 0) || eqb (get_or l (bin_row_at n k) 0) 0))
       ≡ emit_sound n t k (places_of n bins l)
   unfolding emit_sound
   bin-test t = rw (bin-ticks, row_of (laid f) (F.bin_row n bins k j), stamp-is, state-is)

@@ -13,7 +13,8 @@ use Rattle.cell_layout.proofs.Fields as F
 use Rattle.cell_layout.proofs.CellLaws.{laid}
 use Rattle.cell_ready.specs.Taken.{taken}
 
-pub number_is : {l : List ℕ} {n bins : ℕ} → Fits l n bins → get_or l ready_bins_at 0 ≡ (unit_of n bins l).picks.ready_bins
+pub number_is : {l : List ℕ} {n bins : ℕ} → Fits l n bins
+    → get_or l ready_bins_at 0 ≡ (unit_of n bins l).picks.ready_bins
 number_is {n = n} {bins = bins} f = word_of (laid f) (F.ready_bins n bins)
 
 -- bin k of cell u is emptied, and then the number lowered

@@ -34,7 +34,9 @@ frame_length-requires c =
 
 pub returns-in-Refused : goal.returns-in-Refused
 unfolding step
-returns-in-Refused c = rw (← sym c.in-Refused.is ∙ c.pick_verdict.ensures) record { answer = refl; frame = refl; leaves = refl }
+returns-in-Refused c =
+    rw (← sym c.in-Refused.is ∙ c.pick_verdict.ensures)
+    record { answer = refl; frame = refl; leaves = refl }
 
 pub returns-in-Accepted : goal.returns-in-Accepted
 unfolding accepted picks_bin emits sends

@@ -40,8 +40,14 @@ emit_bin-requires c =
 pub point-requires : goal.point-requires
 point-requires c =
     let q = c.requires in
-    (still-celled q (chosen (goal.at.point-requires c).After-data_bin_of-bin) c.emit_bin.ensures.leaves, chosen-below q (chosen (goal.at.point-requires c).After-data_bin_of-bin))
+    let found = chosen (goal.at.point-requires c).After-data_bin_of-bin in
+    (still-celled q found c.emit_bin.ensures.leaves, chosen-below q found)
 
 pub returns : goal.returns
 returns c =
-    let q = c.requires in record { frame = c.emit_bin.ensures.frame ∙ chosen-frame q (chosen (goal.at.returns c).After-data_bin_of-bin); leaves = chosen-leaves q (chosen (goal.at.returns c).After-data_bin_of-bin) c.emit_bin.ensures.leaves c.point.ensures }
+    let q = c.requires in
+    let found = chosen (goal.at.returns c).After-data_bin_of-bin in
+    record {
+      frame = c.emit_bin.ensures.frame ∙ chosen-frame q found;
+      leaves = chosen-leaves q found c.emit_bin.ensures.leaves c.point.ensures;
+    }

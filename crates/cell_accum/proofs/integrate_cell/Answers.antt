@@ -25,7 +25,8 @@ use Rattle.cell_accum.proofs.IntegrateLaws.{
   goes-joined,
 }
 use Rattle.cell_accum.proofs.integrate_cell.Goals as goal
-use Rattle.cell_accum.proofs.integrate_cell.Goals.{After-bin_number-k, After-state_after-next, After-too_wide, Else-replaces, Else-state-eq-READY, Start, Then-state-eq-READY}
+use Rattle.cell_accum.proofs.integrate_cell.Goals.{Start, After-bin_number-k, Then-state-eq-READY, Else-state-eq-READY}
+use Rattle.cell_accum.proofs.integrate_cell.Goals.{Else-replaces, After-state_after-next, After-too_wide}
 
 facts : (c : Start) → let a = c.args in
     IntegrateFacts a.n a.bins (places_of a.n a.bins a.cell.now)
@@ -91,26 +92,31 @@ pub bin_number-k-requires : goal.bin_number-k-requires
 bin_number-k-requires c = label-within c.requires.0 (facts (goal.at.bin_number-k-requires c).Start).label
 
 pub lose_held-requires : goal.lose_held-requires
-lose_held-requires c = may-lose (goal.at.lose_held-requires c).After-bin_number-k (facts (goal.at.lose_held-requires c).Start) _ (omega arith)
+lose_held-requires c =
+    let place = goal.at.lose_held-requires c in
+    may-lose place.After-bin_number-k (facts place.Start) _ (omega arith)
 
 pub returns-then-state-eq-READY : goal.returns-then-state-eq-READY
 returns-then-state-eq-READY c =
-    let s = c
-    in
-    let a = s.args in
+    let place = goal.at.returns-then-state-eq-READY c in
+    let a = c.args in
     let w = places_of a.n a.bins a.cell.now in
-    rw (goes-full a.n a.bins w c.bin_number-k.result (number (goal.at.returns-then-state-eq-READY c).After-bin_number-k) (is-ready (goal.at.returns-then-state-eq-READY c).Then-state-eq-READY))
+    rw
+    (goes-full a.n a.bins w c.bin_number-k.result (number place.After-bin_number-k)
+    (is-ready place.Then-state-eq-READY))
     (record { answer = refl; words = c.lose_held.ensures })
 
 pub replace_bin-requires : goal.replace_bin-requires
-replace_bin-requires c = (
-  (c.requires.0, c.bin_number-k.ensures.below),
-  (
-    held_small c.requires.0 (facts (goal.at.replace_bin-requires c).Start),
-    bin_small c.requires.0 (facts (goal.at.replace_bin-requires c).Start) _ (number (goal.at.replace_bin-requires c).After-bin_number-k),
-    lost-small c.requires.0 (facts (goal.at.replace_bin-requires c).Start) replaced (omega arith),
-  ),
-)
+replace_bin-requires c =
+    let place = goal.at.replace_bin-requires c in
+    let q = facts place.Start in (
+      (c.requires.0, c.bin_number-k.ensures.below),
+      (
+        held_small c.requires.0 q,
+        bin_small c.requires.0 q _ (number place.After-bin_number-k),
+        lost-small c.requires.0 q replaced (omega arith),
+      ),
+    )
 
 pub returns-then-replaces : goal.returns-then-replaces
 returns-then-replaces c =
@@ -143,10 +149,12 @@ returns-then-too_wide c =
     (record { answer = refl; words = c.lose_held-then-too_wide.ensures })
 
 pub join_held-requires : goal.join_held-requires
-join_held-requires c = (
-  (c.requires.0, c.bin_number-k.ensures.below),
-  (held_small c.requires.0 (facts (goal.at.join_held-requires c).Start), bin_small c.requires.0 (facts (goal.at.join_held-requires c).Start) _ (number (goal.at.join_held-requires c).After-bin_number-k)),
-)
+join_held-requires c =
+    let place = goal.at.join_held-requires c in
+    let q = facts place.Start in (
+      (c.requires.0, c.bin_number-k.ensures.below),
+      (held_small c.requires.0 q, bin_small c.requires.0 q _ (number place.After-bin_number-k)),
+    )
 
 pub returns : goal.returns
 returns c =

@@ -66,6 +66,7 @@ returns-then-replaces c =
 
 pub returns-then-too_wide : goal.returns-then-too_wide
 returns-then-too_wide c =
+    let place = goal.at.returns-then-too_wide c in
     let a = c.args in
     let f = c.requires.0 in
     let j = c.requires.1 in
@@ -75,8 +76,8 @@ returns-then-too_wide c =
       c.held_row-from.ensures.is,
       held-ticks f,
     )
-    (holds-wide a.n a.k w (not-ready (goal.at.returns-then-too_wide c).Else-state-eq-READY) (kept (goal.at.returns-then-too_wide c).Else-replaces)
-    (sym (wide (goal.at.returns-then-too_wide c).After-too_wide) ∙ c.if-too_wide.true))
+    (holds-wide a.n a.k w (not-ready place.Else-state-eq-READY) (kept place.Else-replaces)
+    (sym (wide place.After-too_wide) ∙ c.if-too_wide.true))
 
 pub returns : goal.returns
 returns c =

@@ -35,15 +35,17 @@ returns-then-not-parts c =
 
 pub returns-then-cell-ne1 : goal.returns-then-cell-ne1
 returns-then-cell-ne1 c =
+    let place = goal.at.returns-then-cell-ne1 c in
     let a = c.args in
     let w = places_of a.n a.bins a.cell.now in
-    held-free a.n a.bins a.t w (parts (goal.at.returns-then-cell-ne1 c).Else-not-parts) (λ o. c.if-cell-ne1.true (occupied-is c.requires ∙ o))
+    held-free a.n a.bins a.t w (parts place.Else-not-parts) (λ o. c.if-cell-ne1.true (occupied-is c.requires ∙ o))
 
 pub returns-then-not-label_ok : goal.returns-then-not-label_ok
 returns-then-not-label_ok c =
+    let place = goal.at.returns-then-not-label_ok c in
     let a = c.args in
     let w = places_of a.n a.bins a.cell.now in
-    label-bad a.n a.bins a.t w (parts (goal.at.returns-then-not-label_ok c).Else-not-parts) (occupied (goal.at.returns-then-not-label_ok c).Else-cell-ne1)
+    label-bad a.n a.bins a.t w (parts place.Else-not-parts) (occupied place.Else-cell-ne1)
     (sym c.label_ok.ensures ∙ c.if-not-label_ok.true)
 
 pub bin_number-k-requires : goal.bin_number-k-requires

@@ -30,22 +30,26 @@ returns-then-not-integrate_sound c =
 
 pub returns-then-cell-ne1 : goal.returns-then-cell-ne1
 returns-then-cell-ne1 c =
+    let place = goal.at.returns-then-cell-ne1 c in
     let a = c.args in
     let u = unit_of a.n a.bins a.cell.now in
     ap (λ k. leb k (2 * a.bins)) (ready.number_is c.requires)
-    ∙ number-alone a.n a.bins a.t u (passed (goal.at.returns-then-cell-ne1 c).Else-not-integrate_sound) (λ o. c.if-cell-ne1.true (occupied-is c.requires ∙ o))
+    ∙ number-alone a.n a.bins a.t u (passed place.Else-not-integrate_sound)
+    (λ o. c.if-cell-ne1.true (occupied-is c.requires ∙ o))
 
 pub bin_number-k-requires : goal.bin_number-k-requires
 bin_number-k-requires c =
+    let place = goal.at.bin_number-k-requires c in
     let a = c.args in
     let facts = integrate-facts a.n a.bins (places_of a.n a.bins a.cell.now)
-    (record { t = a.t; sound = passed (goal.at.bin_number-k-requires c).Else-not-integrate_sound; occupied = occupied (goal.at.bin_number-k-requires c).Else-cell-ne1 }) in
+    (record { t = a.t; sound = passed place.Else-not-integrate_sound; occupied = occupied place.Else-cell-ne1 }) in
     label-within c.requires facts.label
 
 pub returns : goal.returns
 returns c =
+    let place = goal.at.returns c in
     let a = c.args in
     let u = unit_of a.n a.bins a.cell.now in
     c.number_fits.ensures
-    ∙ number-tested a.n a.bins a.t u (passed (goal.at.returns c).Else-not-integrate_sound) (occupied (goal.at.returns c).Else-cell-ne1) _
+    ∙ number-tested a.n a.bins a.t u (passed place.Else-not-integrate_sound) (occupied place.Else-cell-ne1) _
     (number_is c.requires _ c.bin_number-k.ensures)

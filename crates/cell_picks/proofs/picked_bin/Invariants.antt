@@ -8,7 +8,8 @@ use Rattle.cell_picks.proofs.picked_bin.Given as goal
 
 abbrev pub invariant-loop-more : goal.invariant-loop-more
 invariant-loop-more l =
-    (l.k < l.all) × (seek (ready_at l.n l.bins l.cell) l.all l.more l.k ≡ picked_bin l.n l.bins (unit_of l.n l.bins l.cell))
+    (l.k < l.all)
+    × (seek (ready_at l.n l.bins l.cell) l.all l.more l.k ≡ picked_bin l.n l.bins (unit_of l.n l.bins l.cell))
 
 abbrev pub decreases-loop-more : goal.decreases-loop-more
 decreases-loop-more l = l.more

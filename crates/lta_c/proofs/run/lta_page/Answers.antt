@@ -1,0 +1,18 @@
+-- The call's own contract, at the shape that was read, and its answer packed.
+use mathlib.Core.Path.{ap, ◌∙◌}
+use Rattle.lta_c.proofs.PackLaws.{tells}
+use Rattle.lta_spec.specs.Step.{Step, step}
+use Rattle.lta_spec.specs.declared.Shape.{Shape}
+use Rattle.lta_spec.specs.Call.Call.{page}
+use Rattle.lta_c.proofs.run.lta_page.Goals as goal
+
+pub returns : goal.returns
+returns c =
+    let a = c.args in
+    let e = c.page.ensures in
+    let same = c.shape_of.ensures in
+    let at : Shape → Step = λ s. step s (page a.out.now) a.mem.now in
+    record {
+      answer = tells (λ s. (at s).answer) c.pack.ensures c.written.ensures e.answer same;
+      page = e.page ∙ ap (λ s. (at s).out) same;
+    }
