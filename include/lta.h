@@ -1,16 +1,12 @@
 /* The lag engine and its long-term accumulator, proved, for programs in C and C++.
  *
  * A result is one 64-bit number: LTA_REFUSAL of it is the refusal number, 0 where the call was accepted, and
- * LTA_ANSWER of it the answer. A refused call changes nothing. Any numbers, and any aligned pointer with the length of
- * what it points to, may be passed; the parts lent to one call must not overlap. A pointer that comes with length 0 may
- * be null.
+ * LTA_ANSWER of it the answer. A refused call changes nothing. Any numbers, and any pointer with the length of what it
+ * points to, may be passed; the parts lent to one call must not overlap. A pointer that comes with length 0 may be
+ * null.
  *
  * Lengths count numbers of what is pointed to, not bytes: mem_len is a number of 64-bit words, and memory of mem_len
  * words has mem_len * sizeof(uint64_t) bytes.
- *
- * Alignment. Memory, shapes, sums, counts, fields, lag numbers and pairs are aligned as their types want, as arrays of
- * those types and what malloc gives are; a buffer of bytes that words are read into may not be. Byte parts, which are
- * samples, frames and pages, stand at any address.
  *
  * Memory. mem is the run's work memory, which the host owns. All of a run is in its words; the library keeps nothing
  * between calls, allocates nothing and starts nothing. Nothing else writes the words between the calls of a run.
