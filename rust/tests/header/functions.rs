@@ -123,9 +123,9 @@ fn of_rattle() -> Vec<Vec<Function>> {
 
 /// The functions of a Rattle file, each of which must be exported under its own name.
 fn exported(text: &str) -> Vec<Function> {
-    let marks = text.matches("#[no_mangle]").count();
+    let marks = text.matches("#[unsafe(no_mangle)]").count();
     let functions = of_code(text, "pub extern \"C\" fn ");
-    assert_eq!(marks, functions.len(), "#[no_mangle] before each exported function and no other");
+    assert_eq!(marks, functions.len(), "#[unsafe(no_mangle)] before each exported function and no other");
     functions
 }
 
@@ -163,7 +163,7 @@ fn the_header_is_what_rust_declares() {
 #[test]
 fn a_difference_is_found() {
     let header = of_header("uint64_t f(const uint8_t *s, size_t s_len, int64_t *o, size_t o_len, double x);");
-    let same = "#[no_mangle]\npub extern \"C\" fn f(s: &[u8], o: &mut [i64], x: f64) -> u64 {";
+    let same = "#[unsafe(no_mangle)]\npub extern \"C\" fn f(s: &[u8], o: &mut [i64], x: f64) -> u64 {";
     assert_eq!(header, exported(same));
     for (old, new) in [("&[u8]", "&mut [u8]"), ("i64", "i32"), ("f(", "g("), ("x:", "y:"), (", x: f64", "")] {
         assert_ne!(header, exported(&same.replace(old, new)), "{old} as {new}");
