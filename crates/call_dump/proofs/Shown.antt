@@ -1,4 +1,5 @@
 -- What the tests of an accepted dump showed, and of a speed dump.
+use Rattle.std.specs.Prelude.{Ok}
 use mathlib.Core.Path.{◌≡◌, sym, subst}
 use mathlib.Core.Bool.{true}
 use mathlib.Core.List.{List}
@@ -10,7 +11,6 @@ use Rattle.lta_spec.specs.Call.Call.{dump}
 use Rattle.lta_spec.specs.Damage as D
 use Rattle.lta_spec.specs.Step as S
 use Rattle.lta_spec.specs.declared.Shape.{Shape}
-use Rattle.lta_spec.specs.declared.Verdict.TheVariants.{Accepted}
 use Rattle.lta_spec.proofs.Passed.{DumpPassed, dump-passed}
 use Rattle.call_run.specs.Runs.{Celled, run_of}
 use Rattle.call_run.proofs.RunLaws.{shape-ok}
@@ -26,7 +26,7 @@ pub record Dumps (s : Shape) (mem : List ℕ) (c command bank phase : ℕ) : Typ
   pub bin : (dumped_by s.blocks command bank phase (S.unit_at s c (run_of s mem))).bin < s.bins
 
 module _ (s : Shape) (mem : List ℕ) (c command bank phase : ℕ) (out : List ℕ)
-    (e : Accepted ≡ S.verdict s mem (dump c command bank phase out)) where
+    (e : (Ok tt) ≡ S.verdict s mem (dump c command bank phase out)) where
   passed : DumpPassed s mem c command bank phase (length out)
   passed = dump-passed s mem c command bank phase out (sym e)
 
@@ -40,11 +40,11 @@ module _ (s : Shape) (mem : List ℕ) (c command bank phase : ℕ) (out : List �
 
 -- a speed dump
 pub sends : (s : Shape) (mem : List ℕ) (c command bank phase : ℕ) (out : List ℕ)
-    → Accepted ≡ S.verdict s mem (dump c command bank phase out) → command ≡ speed → SendsFrom s mem c bank phase out
+    → (Ok tt) ≡ S.verdict s mem (dump c command bank phase out) → command ≡ speed → SendsFrom s mem c bank phase out
 unfolding run_of dump_fits
 sends s mem c command bank phase out e is =
-    let at : Accepted ≡ S.verdict s mem (dump c speed bank phase out) =
-    subst (λ k. Accepted ≡ S.verdict s mem (dump c k bank phase out)) is e in
+    let at : (Ok tt) ≡ S.verdict s mem (dump c speed bank phase out) =
+    subst (λ k. (Ok tt) ≡ S.verdict s mem (dump c k bank phase out)) is e in
     let p = passed s mem c speed bank phase out at in
     let q = there s mem c speed bank phase out at in
     record {

@@ -8,18 +8,17 @@ ghost use Rattle.lta_spec.specs.Call.{idle, command_ok, dump_fits, phase_ok, ban
 ghost use Rattle.lta_spec.specs.Call.Call.{dump};
 ghost use Rattle.lta_spec.specs.Damage.{dump_unit_sound};
 ghost use Rattle.lta_spec.specs.Step.{verdict, step};
-ghost use Rattle.cell_layout.specs.Cells.{Fits, unit_of};
+ghost use Rattle.cell_layout.specs.Views.{unit_in, unit_by, IsCell};
 ghost use Rattle.call_dump.specs.Dumping.{dumped_by, Dumped};
 
-use call_run::{cell_part, cell_start, cell_verdict, sound_tested, tested, time_of};
+use call_run::Run;
 use call_speed::speed_dump;
 use cell_block::{count_block, counter_ok};
 use cell_dump::dump_cell;
-use cell_layout::{DISCARD, IDLE, SPEED};
+use cell_layout::{Cell, CellShape, DISCARD, IDLE, RUN_LIMIT, SPEED};
 use cell_tests::dump_sound;
-use frame_header::frame_length;
-use lta_spec::{Moved, Refusal, SPEED_FRAME, Shape, Verdict};
-use shape::cell_words;
+use frame_header::FrameKind;
+use lta_spec::{Moved, Refusal, Shape};
 
 // 6: is the command one of 000 to 100, or 111?
 fn command_ok(command: u64) -> bool
@@ -33,7 +32,7 @@ fn room_rule(n: u64, command: u64, room: usize) -> bool
     requires { n ≤ 128 }
     ensures { result ≡ dump_fits n command room }
 {
-    (command != SPEED) | (frame_length(SPEED_FRAME, n) <= room as u64)
+    (command != SPEED) | (FrameKind::Speed.length(n) <= room as u64)
 }
 
 // 7: is there such a bank, and the whole phase bin in it?
@@ -42,18 +41,19 @@ fn bin_rule(s: Shape, bank: u64, phase: u64) -> bool
     ensures { result ≡ bank_ok bank && phase_ok s phase }
 {
     if phase > 1000 {
-        return false;
+        false
+    } else {
+        (bank < 2) & ((phase + 1) * s.blocks <= s.bins)
     }
-    (bank < 2) & ((phase + 1) * s.blocks <= s.bins)
 }
 
 // 11: the block counter and the parts that a dump tests.
-fn unit_sound(cell: &[u64], n: usize, bins: usize, blocks: u64, t: u64, command: u64) -> bool
-    requires { Fits cell.now n bins }
-    ensures { result ≡ dump_unit_sound n bins blocks t command (unit_of n bins cell.now) }
+fn unit_sound(cell: Cell, blocks: u64, t: u64, command: u64) -> bool
+    ensures { result
+        ≡ dump_unit_sound cell.entry.shape.lags cell.entry.shape.bins blocks t command (unit_in cell.entry) }
 {
-    let counter = counter_ok(cell, n, bins, blocks);
-    let parts = dump_sound(cell, n, bins, t, command);
+    let counter = counter_ok(cell, blocks);
+    let parts = dump_sound(cell, t, command);
     counter & parts
 }
 
@@ -66,44 +66,37 @@ fn dump_verdict(
     bank: u64,
     phase: u64,
     out: &[u8],
-) -> Verdict
+) -> Result<(), Refusal>
     ensures { result ≡ verdict s mem.now (dump c command bank phase out.now) }
 {
-    match cell_verdict(s, mem, c) {
-        Verdict::Refused(r) => Verdict::Refused(r),
-        Verdict::Accepted => {
-            let t = time_of(s, mem);
-            let part = cell_part(s, mem, c);
-            let parts = unit_sound(part, s.lags as usize, s.bins as usize, s.blocks, t, command);
-            let fits = room_rule(s.lags, command, out.len());
-            let roomed = tested(fits, Refusal::ShortBuffer, Verdict::Accepted);
-            let sound = sound_tested(t, parts, roomed);
-            let binned = tested(bin_rule(s, bank, phase), Refusal::NoBin, sound);
-            tested(command_ok(command), Refusal::BadCommand, binned)
-        }
-    }
+    let run = Run::of(s, mem)?;
+    let part = run.cell(c)?;
+    Refusal::BadCommand.unless(command_ok(command))?;
+    Refusal::NoBin.unless(bin_rule(run.shape, bank, phase))?;
+    let t = run.time();
+    Refusal::Damaged.unless((t <= RUN_LIMIT) & unit_sound(part, run.shape.blocks, t, command))?;
+    Refusal::ShortBuffer.unless(room_rule(run.shape.lags, command, out.len()))
 }
 
 // A dump with a command other than 011 that is not refused: the block moves first, and the label names it.
 fn dump_unit(
     cell: &mut [u64],
-    n: usize,
-    bins: usize,
+    shape: CellShape,
     blocks: u64,
     t: u64,
     command: u64,
     bank: u64,
     phase: u64,
 ) -> Moved
-    requires { (Fits cell.old n bins × (command ≤ idle))
-        × ((dump_unit_sound n bins blocks t command (unit_of n bins cell.old) ≡ true)
-        × ((dumped_by blocks command bank phase (unit_of n bins cell.old)).bin < bins)) }
-    ensures { Dumped n bins blocks t command bank phase (unit_of n bins cell.old) result
+    requires { (IsCell shape cell.old × (command ≤ idle))
+        × ((dump_unit_sound shape.lags shape.bins blocks t command (unit_by shape cell.old) ≡ true)
+        × ((dumped_by blocks command bank phase (unit_by shape cell.old)).bin < shape.bins)) }
+    ensures { Dumped shape.lags shape.bins blocks t command bank phase (unit_by shape cell.old) result
         cell.new }
 {
-    let offset = count_block(&mut *cell, n, bins, blocks, command);
+    let offset = count_block(cell, shape, blocks, command);
     let bin = phase * blocks + offset;
-    dump_cell(&mut *cell, n, bins, t, command, bank, bin)
+    dump_cell(cell, shape, t, command, bank, bin)
 }
 
 // A dump of one cell; a speed dump puts its frame into the front of out.
@@ -115,7 +108,7 @@ pub fn dump(
     bank: u64,
     phase: u64,
     out: &mut [u8],
-) -> Moved
+) -> Result<Moved, Refusal>
     ensures answer { moved_as result
         ≡ (step s (dump cell command bank phase out.old) mem.old).answer }
     ensures frame { out.new
@@ -123,19 +116,15 @@ pub fn dump(
     ensures leaves { mem.new
         ≡ (step s (dump cell command bank phase out.old) mem.old).mem }
 {
-    match dump_verdict(s, &*mem, cell, command, bank, phase, &*out) {
-        Verdict::Refused(r) => Moved::Refused(r),
-        Verdict::Accepted => {
-            if command == SPEED {
-                speed_dump(s, &mut *mem, cell, bank, phase, &mut *out);
-                return Moved::Sent(frame_length(SPEED_FRAME, s.lags));
-            }
-            let n = s.lags as usize;
-            let bins = s.bins as usize;
-            let t = time_of(s, &*mem);
-            let at = cell_start(s, &*mem, cell);
-            let e = at + cell_words(n, bins);
-            dump_unit(&mut mem[at..e], n, bins, s.blocks, t, command, bank, phase)
-        }
+    dump_verdict(s, mem, cell, command, bank, phase, out)?;
+    if command == SPEED {
+        speed_dump(s, mem, cell, bank, phase, out);
+        return Ok(Moved::Sent(FrameKind::Speed.length(s.lags)));
     }
+    let run = Run { shape: s, mem };
+    let shape = run.cell_shape();
+    let t = run.time();
+    let at = run.cell_start(cell);
+    let e = at + run.cell_words();
+    Ok(dump_unit(&mut mem[at..e], shape, s.blocks, t, command, bank, phase))
 }

@@ -4,47 +4,25 @@
 ghost use Rattle.std.specs.Prelude.{◌≡◌};
 ghost use Rattle.lta_spec.specs.Answer.{moved_as};
 ghost use Rattle.lta_spec.specs.Call.Call.{integrate};
-ghost use Rattle.lta_spec.specs.Step.{verdict, step};
+ghost use Rattle.lta_spec.specs.Step.{step};
 
-use call_run::{cell_part, cell_start, cell_verdict, sound_tested, tested, time_of};
+use call_run::Run;
 use cell_integrate::{integrate_unit, integrate_unit_sound};
-use cell_layout::OCCUPIED;
-use lta_spec::{Moved, Refusal, Shape, Verdict};
-use shape::cell_words;
+use cell_layout::{OCCUPIED, RUN_LIMIT};
+use lta_spec::{Moved, Refusal, Shape};
 
-// 1, 2, 5, 11, 8.
-fn integrate_verdict(s: Shape, mem: &[u64], c: u64) -> Verdict
-    ensures { result ≡ verdict s mem.now (integrate c) }
-{
-    match cell_verdict(s, mem, c) {
-        Verdict::Refused(r) => Verdict::Refused(r),
-        Verdict::Accepted => {
-            let t = time_of(s, mem);
-            let part = cell_part(s, mem, c);
-            let parts = integrate_unit_sound(part, s.lags as usize, s.bins as usize, t);
-            let held = part[OCCUPIED] == 1;
-            sound_tested(
-                t,
-                parts,
-                tested(held, Refusal::NothingHeld, Verdict::Accepted),
-            )
-        }
-    }
-}
-
-// An integration of one cell.
-pub fn integrate(s: Shape, mem: &mut [u64], cell: u64) -> Moved
+// An integration of one cell. 1, 2, 5, 11, 8.
+pub fn integrate(s: Shape, mem: &mut [u64], cell: u64) -> Result<Moved, Refusal>
     ensures answer { moved_as result ≡ (step s (integrate cell) mem.old).answer }
     ensures leaves { mem.new ≡ (step s (integrate cell) mem.old).mem }
 {
-    match integrate_verdict(s, &*mem, cell) {
-        Verdict::Refused(r) => Moved::Refused(r),
-        Verdict::Accepted => {
-            let n = s.lags as usize;
-            let bins = s.bins as usize;
-            let at = cell_start(s, &*mem, cell);
-            let e = at + cell_words(n, bins);
-            integrate_unit(&mut mem[at..e], n, bins)
-        }
-    }
+    let run = Run::of(s, mem)?;
+    let part = run.cell(cell)?;
+    let t = run.time();
+    Refusal::Damaged.unless((t <= RUN_LIMIT) & integrate_unit_sound(part, t))?;
+    Refusal::NothingHeld.unless(part.words[OCCUPIED] == 1)?;
+    let shape = run.cell_shape();
+    let at = run.cell_start(cell);
+    let e = at + run.cell_words();
+    Ok(integrate_unit(&mut mem[at..e], shape))
 }

@@ -1,49 +1,32 @@
--- A page of a run, one cell after the other: lines and totals; and what the tests of an accepted page showed.
+-- A page of a run, one cell after the other: lines and totals.
 use Prim.Native.Nat.{ℕ, suc, ◌+◌, ◌*◌, ◌≤◌, ◌<◌}
 use mathlib.Core.Path.{◌≡◌, refl, sym, ap, ◌∙◌, subst}
 use mathlib.Core.Bool.{true}
 use mathlib.Core.List.{List, [], ◌∷◌, ◌++◌, map, append-nil, map-append}
 use native.Mathlib.Omega.{arith}
-use lib.Dec.{leb}
 use lib.ListN.{length, get_or, take, length-map}
 use lib.Seq.{take-suc, length-take-le}
-use borrow.Author.Tests.{leb-true}
 use Rattle.lta_spec.specs.Words.{splice, joined}
 use Rattle.lta_spec.specs.Shape.{run_limit}
-use Rattle.lta_spec.specs.Size.{host_tests}
 use Rattle.lta_spec.specs.Page.{Within, added, counts_sum, line_bytes, cell_lines, ledger_lines, totals_line, page_of}
 use Rattle.lta_spec.specs.Page.{page_length}
-use Rattle.lta_spec.specs.Call.Call.{page}
 use Rattle.lta_spec.specs.Engine.{Unit}
 use Rattle.lta_spec.specs.Damage.{page_sound, ledgers_sound}
 use Rattle.lta_spec.specs.Memory.{Run}
 use Rattle.lta_spec.specs.Step as S
-use Rattle.lta_spec.specs.declared.Shape.{Shape}
 use Rattle.lta_spec.specs.declared.Counts.{Counts}
-use Rattle.lta_spec.specs.declared.Verdict.TheVariants.{Accepted}
 use Rattle.lta_spec.proofs.WordLaws.{splice-behind, joined-append}
-use Rattle.lta_spec.proofs.TestLaws.{pass, every_take}
+use Rattle.lta_spec.proofs.TestLaws.{every_take}
 use Rattle.lta_spec.proofs.LayoutLaws.{All, all_take}
 use Rattle.lta_spec.proofs.MemoryLaws.{UnitOk, run-law}
 use Rattle.lta_spec.proofs.PageLaws.{Ledger, length-joined, ledger-lines-append, ledger-lines-long}
 use Rattle.lta_spec.proofs.PageLaws.{ledger-lines-count}
 use Rattle.lta_spec.proofs.LedgerLaws.{counts-append}
 use Rattle.lta_spec.proofs.LossPages.{ledger-fits, ledger-within}
+use Rattle.call_run.specs.declared.run.Run as R
 use Rattle.call_run.specs.Runs.{run_of}
 use Rattle.call_run.proofs.RunLaws.{shape_is, whole, units-length}
-use Rattle.call_run.proofs.FirstLaws.{both-passed}
-use Rattle.call_run.proofs.StepLaws.{sound-shown}
-use Rattle.call_page.specs.Pages.{PagesInto}
-
--- what the tests of an accepted page showed
-pub pages : (s : Shape) (mem out : List ℕ) → Accepted ≡ S.verdict s mem (page out) → PagesInto s mem out
-unfolding S.verdict run_of
-pages s mem out e =
-    let r = run_of s mem in
-    let q = both-passed (host_tests s (length mem)) (S.call_tests s (page out) r) (sym e) in
-    let x = sound-shown r.t (ledgers_sound r.units) _ q.1 in
-    let y = pass (leb (page_length s.cells) (length out)) _ _ x.2 in
-    record { hosted = q.0; sound = x.1; room = leb-true _ _ y.0 }
+use Rattle.call_run.proofs.ViewLaws.{hosted_in}
 
 -- 41 × (6C + 1): 246 for each cell, and 41
 pub page-bytes : (cells : ℕ) → page_length cells ≡ 246 * cells + 41
@@ -132,15 +115,17 @@ module _ (n B : ℕ) (us : List Unit) (ok : All (UnitOk n B) us) (few : length u
       (sym
       (joined-append all (totals_line totals ∷ []) ∙ ap (λ z. joined all ++ z) (append-nil (totals_line totals))))
 
--- the cells of a run that a page finds
-module _ (s : Shape) (mem out : List ℕ) (p : PagesInto s mem out) where
-  pub units-ok : All (UnitOk s.lags s.bins) (run_of s mem).units
+-- the cells of a run
+module _ (r : R.Run) where
+  pub units-ok : All (UnitOk r.shape.lags r.shape.bins) (run_of r.shape r.mem.now).units
   unfolding run_of
-  units-ok = ((run-law s).fits mem (omega (arith, (whole s mem p.hosted).size))).1.0.1
+  units-ok = ((run-law r.shape).fits r.mem.now (omega (arith, (whole r.shape r.mem.now (hosted_in r)).size))).1.0.1
 
-  pub units-few : length (run_of s mem).units ≤ 16
-  units-few = omega (arith, units-length s mem p.hosted, (shape_is s mem p.hosted).cells)
+  pub units-count : length (run_of r.shape r.mem.now).units ≡ r.shape.cells
+  units-count = units-length r.shape r.mem.now (hosted_in r)
 
-  -- the room that a page has
-  pub room-is : 246 * s.cells + 41 ≤ length out
-  room-is = omega (arith, p.room, page-bytes s.cells)
+  pub cells-few : r.shape.cells ≤ 16
+  cells-few = (shape_is r.shape r.mem.now (hosted_in r)).cells
+
+  pub units-few : length (run_of r.shape r.mem.now).units ≤ 16
+  units-few = omega (arith, units-count, cells-few)

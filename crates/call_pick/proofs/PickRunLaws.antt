@@ -1,4 +1,5 @@
 -- What the tests of an accepted pick showed, and the words of the places of picks.
+use Rattle.std.specs.Prelude.{Ok}
 use mathlib.Core.Path.{◌≡◌, sym, ap, ◌∙◌, subst}
 use mathlib.Core.Bool.{true, ◌&&◌}
 use mathlib.Core.List.{List}
@@ -16,7 +17,6 @@ use Rattle.lta_spec.specs.Damage as D
 use Rattle.lta_spec.specs.Memory.{run_layout}
 use Rattle.lta_spec.specs.Step as S
 use Rattle.lta_spec.specs.declared.Shape.{Shape}
-use Rattle.lta_spec.specs.declared.Verdict.TheVariants.{Accepted}
 use Rattle.lta_spec.proofs.TestLaws.{and_both, every-at}
 use Rattle.lta_spec.proofs.MemoryLaws.{run-width}
 use Rattle.lta_spec.proofs.PickPassed.{pick-passed}
@@ -27,7 +27,7 @@ use Rattle.cell_layout.proofs.Fields as F
 use Rattle.call_run.specs.Runs.{Celled, run_of}
 use Rattle.call_run.proofs.RunLaws.{length-is, whole, next_last, units-length}
 use Rattle.call_run.proofs.FirstLaws.{both-passed}
-use Rattle.call_run.proofs.StepLaws.{verdict-is, sound-shown}
+use Rattle.call_run.proofs.StepLaws.{sound-shown}
 use Rattle.call_emit.specs.Emission.{EmitsFrom, frame_at, emitted}
 use Rattle.call_pick.specs.Picking.{PicksFrom, cell_of}
 
@@ -38,13 +38,12 @@ turn-within bins t u ok =
     let x = and_both (every (D.bin_ok t) u.cell.bins) _ ok in
     ltb-true _ _ (and_both (eqb u.picks.ready_bins (D.count_ready u.cell.bins)) _ x.1).1
 
-pub picks : (s : Shape) (mem out : List ℕ) → Accepted ≡ S.verdict s mem (pick out) → PicksFrom s mem out
-unfolding run_of
+pub picks : (s : Shape) (mem out : List ℕ) → (Ok tt) ≡ S.verdict s mem (pick out) → PicksFrom s mem out
+unfolding run_of S.verdict
 picks s mem out e =
     let r = run_of s mem in
     let p = pick-passed s mem out (sym e) in
-    let q =
-    both-passed (host_tests s (length mem)) (S.call_tests s (pick out) r) (sym (e ∙ verdict-is s mem (pick out))) in
+    let q = both-passed (host_tests s (length mem)) (S.call_tests s (pick out) r) (sym e) in
     let x = sound-shown r.t (D.picks_sound s.bins r.t r.units && ltb r.next s.cells) _ q.1 in
     let y = and_both (D.picks_sound s.bins r.t r.units) _ x.1 in
     let c = cell_of s mem in
@@ -110,7 +109,7 @@ module _ {s : Shape} {mem out : List ℕ} (q : PicksFrom s mem out) {c k bank bi
           let long : length mem ≡ length sent =
           length-is s mem q.hosted ∙ sym (run-width s) ∙ sym l.size in
           record {
-            hosted = subst (λ n. first_of (host_tests s n) ≡ Accepted) long q.hosted;
+            hosted = subst (λ n. first_of (host_tests s n) ≡ Ok tt) long q.hosted;
             there = chosen-emits.cell.there;
           }
 

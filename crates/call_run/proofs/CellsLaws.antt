@@ -11,14 +11,15 @@ use Rattle.lta_spec.specs.Words.{every}
 use Rattle.lta_spec.specs.Engine.{Unit}
 use Rattle.lta_spec.specs.declared.Shape.{Shape}
 use Rattle.lta_spec.proofs.TestLaws.{every-next}
-use Rattle.cell_layout.specs.Cells.{unit_of}
-use Rattle.call_run.specs.Runs.{Hosted, run_of, CellPart}
+use Rattle.cell_layout.specs.Views.{unit_in}
+use Rattle.cell_layout.specs.declared.cell.Cell.{Cell}
+use Rattle.call_run.specs.Runs.{Hosted, run_of, CellOf}
 use Rattle.call_run.proofs.RunLaws.{units-length}
 
 module _ (s : Shape) (mem : List ℕ) (h : Hosted s mem) (f : Unit → Bool) (c : ℕ) where
   -- the cells before c passed it or not, and then the next
-  pub cells-next : {l : List ℕ} {ok x : Bool} → c < s.cells → CellPart s mem c l
-      → ok ≡ every f (take c (run_of s mem).units) → x ≡ f (unit_of s.lags s.bins l)
+  pub cells-next : {p : Cell} {ok x : Bool} → c < s.cells → CellOf s mem c p
+      → ok ≡ every f (take c (run_of s mem).units) → x ≡ f (unit_in p)
       → ok && x ≡ every f (take (c + 1) (run_of s mem).units)
   cells-next there p before here =
       let us = (run_of s mem).units in

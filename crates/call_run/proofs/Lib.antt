@@ -1,7 +1,7 @@
 -- Laws of whole work memory, and of calls on it.
 pub mod RunLaws
 pub mod FirstLaws
-pub mod TestedLaws
+pub mod ViewLaws
 pub mod StepLaws
 pub mod LoanLaws
 pub mod CellsLaws

@@ -1,36 +1,32 @@
 -- The words of a cell, lent and given back: what they are, and what `step` makes of work memory through them.
-use mathlib.Core.Path.{◌≡◌, refl, sym, ap, ◌∙◌, subst}
+use mathlib.Core.Path.{◌≡◌, refl, sym, ap, ◌∙◌}
 use mathlib.Core.List.{List}
 use Prim.Native.Nat.{ℕ, ◌+◌, ◌-◌}
 use lib.ListN.{take, drop}
 use borrow.Rule.Slice.PartMut.{put_mid}
 use Rattle.lta_spec.specs.Size.{cell_words}
-use Rattle.lta_spec.specs.Place.{Cell, Result}
+use Rattle.lta_spec.specs.Place.{Result}
 use Rattle.lta_spec.specs.Answer.{moved_as}
 use Rattle.lta_spec.specs.Answer.Answer.{number}
+use Rattle.std.specs.Prelude.{Ok}
 use Rattle.lta_spec.specs.declared.Moved.{Moved}
 use Rattle.lta_spec.specs.Call.{Call}
 use Rattle.lta_spec.specs.Engine.{Row, Unit}
 use Rattle.lta_spec.specs.Memory.{unit_layout, run_layout}
 use Rattle.lta_spec.specs.Step as S
 use Rattle.lta_spec.specs.declared.Shape.{Shape}
-use Rattle.lta_spec.specs.declared.Verdict.TheVariants.{Accepted}
 use Rattle.lta_spec.proofs.WordLaws.{lent, returned}
 use Rattle.lta_spec.proofs.MemoryLaws.{unit-law, unit-width, run-law}
 use Rattle.cell_layout.specs.Lays.{Lays}
 use Rattle.cell_layout.specs.Offsets.{cell_at}
-use Rattle.cell_layout.specs.Cells.{unit_of, places_of, with_places}
+use Rattle.cell_layout.specs.Cells.{unit_of, with_places}
 use Rattle.cell_layout.specs.Moves.{Leaves}
 use Rattle.cell_layout.proofs.LaysLaws.{lays-put, lays_back}
 use Rattle.cell_layout.proofs.Fields.{cell}
-use Rattle.call_run.specs.Runs.{Celled, run_of, CellPart}
-use Rattle.call_run.proofs.RunLaws.{whole, starts, cell-part}
+use Rattle.call_run.specs.Runs.{Celled, run_of}
+use Rattle.call_run.proofs.RunLaws.{whole, starts, cell-size, cell-unit}
+use Rattle.call_run.proofs.ViewLaws.{CellPart}
 use Rattle.call_run.proofs.StepLaws.{done}
-
--- what holds of a cell's places holds of its words
-pub part-holds : {s : Shape} {mem : List ℕ} {c : ℕ} {l : List ℕ} → CellPart s mem c l → (P : Cell Row → Type 0)
-    → P (S.cell_at s c (run_of s mem)) → P (places_of s.lags s.bins l)
-part-holds k P p = subst P (ap (λ u. u.cell) (sym k.unit)) p
 
 -- the words of cell c as code lends them: K words from `at`
 module _ {s : Shape} {mem : List ℕ} {c : ℕ} (q : Celled s mem c) {at K : ℕ}
@@ -40,7 +36,10 @@ module _ {s : Shape} {mem : List ℕ} {c : ℕ} (q : Celled s mem c) {at K : ℕ
 
   pub loan-is : CellPart s mem c loan
   loan-is =
-      rw (e, w, lent mem (cell_at s.lags s.bins c) (cell_words s.lags s.bins)) (cell-part q)
+      record {
+        size = rw (e, w, lent mem (cell_at s.lags s.bins c) (cell_words s.lags s.bins)) (cell-size q);
+        unit = rw (e, w, lent mem (cell_at s.lags s.bins c) (cell_words s.lags s.bins)) (cell-unit q);
+      }
 
   -- they come back as cell u
   pub loan-unit : (vs : List ℕ) (u : Unit) → Lays (unit_layout s.lags s.bins) vs u
@@ -53,7 +52,7 @@ module _ {s : Shape} {mem : List ℕ} {c : ℕ} (q : Celled s mem c) {at K : ℕ
 
   -- a dump or an integration of that cell, which moves its places by f, and by g its block counter or its picks
   pub loan-moved : (call : Call) (out : List ℕ) (f : Unit → Result Row) (g : Unit → Unit) (m : Moved) (vs : List ℕ)
-      → Accepted ≡ S.verdict s mem call
+      → (Ok tt) ≡ S.verdict s mem call
       → (let u = S.unit_at s c (run_of s mem) in
       S.accepted s call (run_of s mem) ≡ record {
         answer = number (f u).answer;
@@ -61,8 +60,8 @@ module _ {s : Shape} {mem : List ℕ} {c : ℕ} (q : Celled s mem c) {at K : ℕ
         run = S.with_unit s c (with_places (g u) (f u).cell) (run_of s mem);
       })
       → (let u = unit_of s.lags s.bins loan in Leaves s.lags s.bins (g u) (f u) m vs)
-      → (moved_as m ≡ (S.step s call mem).answer)
+      → (moved_as (Ok m) ≡ (S.step s call mem).answer)
       × ((out ≡ (S.step s call mem).out) × (put_mid at (at + K - at) mem vs ≡ (S.step s call mem).mem))
   loan-moved call out f g m vs ok acc l =
       rw (done s mem call ok, acc, ← loan-is.unit)
-      (l.answer, (refl, lays-put (run-law s) (loan-unit vs _ l.words)))
+      (ap number l.answer, (refl, lays-put (run-law s) (loan-unit vs _ l.words)))

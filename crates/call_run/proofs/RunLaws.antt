@@ -21,7 +21,8 @@ use Rattle.cell_layout.specs.Offsets.{time_at, next_cell_at, cell_at}
 use Rattle.cell_layout.specs.Cells.{unit_of}
 use Rattle.cell_layout.proofs.LaysLaws.{lays, lays-part, word_of}
 use Rattle.cell_layout.proofs.Fields.{time, next_cell, cell}
-use Rattle.call_run.specs.Runs.{Hosted, Celled, run_of, Starts, CellPart}
+use Rattle.lta_spec.specs.Step.{unit_at}
+use Rattle.call_run.specs.Runs.{Hosted, Celled, run_of, Starts}
 
 module _ (s : Shape) (mem : List ℕ) (h : Hosted s mem) where
   -- 1 and 2 passed
@@ -76,10 +77,15 @@ module _ {s : Shape} {mem : List ℕ} {c : ℕ} (q : Celled s mem c) where
   small =
       omega (arith, length-is s mem q.hosted, all_small s (shape_is s mem q.hosted), starts.inside)
 
-  pub cell-part : CellPart s mem c (part (cell_at s.lags s.bins c) (cell_words s.lags s.bins) mem)
+  -- the words of cell c
+  pub cell-size : length (part (cell_at s.lags s.bins c) (cell_words s.lags s.bins) mem) ≡ cell_words s.lags s.bins
+  cell-size =
+      let l = lays-part (unit-law s.lags s.bins) (cell s c q.there) (whole s mem q.hosted) in
+      (rw (unit-width s.lags s.bins) at l).size
+
+  pub cell-unit : unit_of s.lags s.bins (part (cell_at s.lags s.bins c) (cell_words s.lags s.bins) mem)
+      ≡ unit_at s c (run_of s mem)
   unfolding unit_of
-  cell-part =
-      let h = shape_is s mem q.hosted in
-      let u = unit-law s.lags s.bins in
-      let l = rw (unit-width s.lags s.bins) at (lays-part u (cell s c q.there) (whole s mem q.hosted)) in
-      record { fits = record { size = l.size; lags = h.lags; bins = h.bins }; unit = l.is }
+  cell-unit =
+      let l = lays-part (unit-law s.lags s.bins) (cell s c q.there) (whole s mem q.hosted) in
+      (rw (unit-width s.lags s.bins) at l).is

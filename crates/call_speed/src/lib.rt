@@ -9,21 +9,32 @@ ghost use Rattle.lta_spec.specs.Call.Call.{dump};
 ghost use Rattle.lta_spec.specs.Memory.{unit_layout, run_layout};
 ghost use Rattle.lta_spec.specs.Step.{row_frame, accepted};
 ghost use Rattle.cell_layout.specs.Lays.{Lays};
-ghost use Rattle.cell_layout.specs.Cells.{Fits, unit_of};
+ghost use Rattle.cell_layout.specs.Cells.{unit_of};
+ghost use Rattle.cell_layout.specs.Views.{IsCell};
 ghost use Rattle.call_run.specs.Runs.{run_of};
 ghost use Rattle.call_speed.specs.Sending.{bin_by, sent_by, Sends, SendsFrom};
 
-use call_run::{cell_start, time_of};
+use call_run::Run;
 use cell_block::count_block;
 use cell_dump::send_open;
-use cell_layout::{OPEN_ROW, OPEN_STAMP, SPEED, held_row};
+use cell_layout::{CellShape, OPEN_ROW, OPEN_STAMP, SPEED};
 use frame_emission::put_frame;
-use lta_spec::{SPEED_FRAME, Shape};
-use shape::cell_words;
+use frame_header::FrameKind;
+use lta_spec::Shape;
 
 // Of one cell: the block moves first, and the frame names it.
-fn speed_cell(s: Shape, c: u64, cell: &mut [u64], t: u64, bank: u64, phase: u64, out: &mut [u8])
-    requires { Fits cell.old s.lags s.bins
+fn speed_cell(
+    s: Shape,
+    c: u64,
+    cell: &mut [u64],
+    shape: CellShape,
+    t: u64,
+    bank: u64,
+    phase: u64,
+    out: &mut [u8],
+)
+    requires alike { (shape.lags ≡ s.lags) × (shape.bins ≡ s.bins) }
+    requires sends { IsCell shape cell.old
         × Sends s c bank phase t (unit_of s.lags s.bins cell.old) out.old }
     ensures frame { out.new
         ≡ splice out.old 0
@@ -32,23 +43,21 @@ fn speed_cell(s: Shape, c: u64, cell: &mut [u64], t: u64, bank: u64, phase: u64,
     ensures leaves { Lays (unit_layout s.lags s.bins) cell.new
         (sent_by s t (unit_of s.lags s.bins cell.old)) }
 {
-    let n = s.lags as usize;
-    let bins = s.bins as usize;
-    let offset = count_block(&mut *cell, n, bins, s.blocks, SPEED);
+    let offset = count_block(cell, shape, s.blocks, SPEED);
     let bin = phase * s.blocks + offset;
     let stamp = cell[OPEN_STAMP];
-    let e = held_row(n);
+    let e = shape.held_row();
     put_frame(
         s,
-        SPEED_FRAME,
+        FrameKind::Speed,
         c,
         bank,
         bin,
         stamp,
         &cell[OPEN_ROW..e],
-        &mut *out,
+        out,
     );
-    send_open(&mut *cell, n, bins, t);
+    send_open(cell, shape, t);
 }
 
 // Of a run.
@@ -60,8 +69,10 @@ pub fn speed_dump(s: Shape, mem: &mut [u64], cell: u64, bank: u64, phase: u64, o
         ≡ (run_layout s).put
         (accepted s (dump cell speed bank phase out.old) (run_of s mem.old)).run }
 {
-    let t = time_of(s, &*mem);
-    let at = cell_start(s, &*mem, cell);
-    let e = at + cell_words(s.lags as usize, s.bins as usize);
-    speed_cell(s, cell, &mut mem[at..e], t, bank, phase, &mut *out);
+    let run = Run { shape: s, mem };
+    let shape = run.cell_shape();
+    let t = run.time();
+    let at = run.cell_start(cell);
+    let e = at + run.cell_words();
+    speed_cell(s, cell, &mut mem[at..e], shape, t, bank, phase, out);
 }

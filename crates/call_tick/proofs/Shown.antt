@@ -1,4 +1,5 @@
 -- What the tests of an accepted tick showed.
+use Rattle.std.specs.Prelude.{Ok}
 use mathlib.Core.Path.{◌≡◌, sym, ◌∙◌}
 use mathlib.Core.Bool.{true, not}
 use mathlib.Core.List.{List}
@@ -12,7 +13,6 @@ use Rattle.lta_spec.specs.Call.{samples_ok, validity_ok}
 use Rattle.lta_spec.specs.Call.Call.{tick}
 use Rattle.lta_spec.specs.Step as S
 use Rattle.lta_spec.specs.declared.Shape.{Shape}
-use Rattle.lta_spec.specs.declared.Verdict.TheVariants.{Accepted}
 use Rattle.lta_spec.proofs.TestLaws.{pass}
 use Rattle.call_run.specs.Runs.{Hosted, run_of}
 use Rattle.call_run.proofs.FirstLaws.{both-passed}
@@ -24,7 +24,7 @@ pub record TicksAll (s : Shape) (mem samples : List ℕ) : Type 0 where
   pub limited : (run_of s mem).t ≤ run_limit
   pub sound : S.units_sound s (run_of s mem).t (run_of s mem).units ≡ true
 
-pub ticks-all : (s : Shape) (mem samples : List ℕ) → Accepted ≡ S.verdict s mem (tick samples) → TicksAll s mem samples
+pub ticks-all : (s : Shape) (mem samples : List ℕ) → (Ok tt) ≡ S.verdict s mem (tick samples) → TicksAll s mem samples
 ticks-all s mem samples e =
     let r = run_of s mem in
     let q =

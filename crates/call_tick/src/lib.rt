@@ -2,7 +2,7 @@
 #![tactic(auto)]
 
 ghost use Rattle.std.specs.Prelude.{◌≡◌, true, ◌*◌, length};
-ghost use Rattle.lta_spec.specs.Answer.{ticked_as};
+ghost use Rattle.lta_spec.specs.Answer.{numbered_as};
 ghost use Rattle.lta_spec.specs.Memory.{run_layout};
 ghost use Rattle.lta_spec.specs.Call.Call.{tick};
 ghost use Rattle.lta_spec.specs.Step.{units_sound, tick_units, held_off, step};
@@ -10,12 +10,11 @@ ghost use Rattle.cell_layout.specs.Lays.{Lays};
 ghost use Rattle.call_run.specs.Runs.{Hosted, run_of};
 ghost use Rattle.call_tick.specs.Cells.{Ticks, TickedAt};
 
-use call_run::{cell_start, time_of};
+use call_run::Run;
 use call_tick_tests::tick_verdict;
 use cell_layout::TIME;
 use cell_tick::tick_cell;
-use lta_spec::{Shape, Ticked, Verdict};
-use shape::cell_words;
+use lta_spec::{Refusal, Shape};
 use signal::entry_of;
 
 // A tick of cell c that brings the entries x and y; answers 1 where the cell is held off and else 0.
@@ -23,11 +22,11 @@ fn tick_at(s: Shape, mem: &mut [u64], c: u64, x: u64, y: u64) -> u64
     requires { Ticks s mem.old c }
     ensures { TickedAt s c x y (run_of s mem.old) result mem.new }
 {
-    let n = s.lags as usize;
-    let bins = s.bins as usize;
-    let at = cell_start(s, &*mem, c);
-    let e = at + cell_words(n, bins);
-    tick_cell(&mut mem[at..e], n, bins, x, y)
+    let run = Run { shape: s, mem };
+    let shape = run.cell_shape();
+    let at = run.cell_start(c);
+    let e = at + run.cell_words();
+    tick_cell(&mut mem[at..e], shape, x, y)
 }
 
 // An X, a Y and a validity byte for each cell in turn, its bit 0 for X and bit 1 for Y; answers how many cells are held
@@ -43,32 +42,24 @@ fn tick_cells(s: Shape, mem: &mut [u64], samples: &[u8]) -> u64
           units = tick_units s samples.now (run_of s mem.old).units;
         }) }
 {
-    let cells = s.cells;
     let mut held: u64 = 0;
-    let mut c: u64 = 0;
-    while c < cells {
+    for c in 0..s.cells {
         let i = 3 * c as usize;
         let valid = samples[i + 2];
         let x = entry_of(samples[i], valid % 2);
         let y = entry_of(samples[i + 1], valid / 2 % 2);
-        held = held + tick_at(s, &mut *mem, c, x, y);
-        c += 1;
+        held += tick_at(s, mem, c, x, y);
     }
     held
 }
 
 // A tick of every cell.
-pub fn tick(s: Shape, mem: &mut [u64], samples: &[u8]) -> Ticked
-    ensures answer { ticked_as result ≡ (step s (tick samples.now) mem.old).answer }
+pub fn tick(s: Shape, mem: &mut [u64], samples: &[u8]) -> Result<u64, Refusal>
+    ensures answer { numbered_as result ≡ (step s (tick samples.now) mem.old).answer }
     ensures leaves { mem.new ≡ (step s (tick samples.now) mem.old).mem }
 {
-    match tick_verdict(s, &*mem, samples) {
-        Verdict::Refused(r) => Ticked::Refused(r),
-        Verdict::Accepted => {
-            let t = time_of(s, &*mem);
-            let held = tick_cells(s, &mut *mem, samples);
-            mem[TIME] = t + 1;
-            Ticked::HeldOff(held)
-        }
-    }
+    tick_verdict(s, mem, samples)?;
+    let held = tick_cells(s, mem, samples);
+    mem[TIME] += 1;
+    Ok(held)
 }

@@ -2,7 +2,7 @@
 use mathlib.Core.Path.{◌≡◌, ap₂, ◌∙◌}
 use mathlib.Core.Bool.{true, ◌&&◌}
 use mathlib.Core.List.{List}
-use Prim.Native.Nat.{ℕ, ◌+◌, ◌*◌, ◌<◌, ◌≤◌}
+use Prim.Native.Nat.{ℕ, ◌+◌, ◌*◌, ◌<◌}
 use lib.Dec.{leb, eqb, ltb}
 use lib.ListN.{get_or}
 use borrow.Author.Tests.{ltb-true}
@@ -24,13 +24,13 @@ use Rattle.cell_bins.proofs.BinLaws.{state-is, bin-ticks}
 -- the label, by the words: it names a bin, and which
 module _ {l : List ℕ} {n bins : ℕ} (f : Fits l n bins) where
   pub label-within : D.label_ok bins (places_of n bins l).held.label ≡ true
-      → (get_or l bank_at 0 < 2) × (get_or l data_bin_at 0 < bins) × (bins ≤ 1000)
+      → (get_or l bank_at 0 < 2) × (get_or l data_bin_at 0 < bins)
   label-within ok =
       let x = (places_of n bins l).held.label in
       let a = and_both (leb x.command last) _ ok in
       let b = and_both (ltb x.bank 2) _ a.1 in
       rw (word_of (laid f) (F.bank n bins), word_of (laid f) (F.data_bin n bins))
-      (ltb-true _ _ b.0, ltb-true _ _ b.1, f.bins)
+      (ltb-true _ _ b.0, ltb-true _ _ b.1)
 
   pub number_is : (k : ℕ) → Numbers bins (get_or l bank_at 0) (get_or l data_bin_at 0) k
       → k ≡ held_bin n bins (places_of n bins l)

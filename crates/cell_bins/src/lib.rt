@@ -5,48 +5,46 @@ ghost use Rattle.std.specs.Prelude.{◌≡◌, ◌+◌, ◌*◌, ◌<◌, ◌≤
 ghost use Rattle.lta_spec.specs.Shape.{bin_limit};
 ghost use Rattle.lta_spec.specs.Engine.{empty_bin};
 ghost use Rattle.lta_spec.specs.Damage.{emit_sound};
-ghost use Rattle.cell_layout.specs.Cells.{Fits, Changes, places_of};
+ghost use Rattle.cell_layout.specs.Cells.{Changes};
+ghost use Rattle.cell_layout.specs.Views.{places_in, IsCell};
 ghost use Rattle.cell_bins.specs.Bins.{Numbers};
 
-use cell_layout::{BIN_LIMIT, FREE, READY, ROW, STAMP, bin_start, row_words};
+use cell_layout::{BIN_LIMIT, Cell, CellShape, FREE, READY, ROW, STAMP};
 use words::{clear, row_ok};
 
 // The place in a cell's list of the bin that a bank and a data bin name.
-pub fn bin_number(bank: u64, bin: u64, bins: usize) -> usize
-    requires { (bank < 2) × (bin < bins) × (bins ≤ 1000) }
-    ensures { Numbers bins bank bin result }
+pub fn bin_number(shape: CellShape, bank: u64, bin: u64) -> usize
+    requires { (bank < 2) × (bin < shape.bins) }
+    ensures { Numbers shape.bins bank bin result }
 {
-    bank as usize * bins + bin as usize
+    bank as usize * shape.bins + bin as usize
 }
 
 // Is bin k within its limits, and empty where it is Free? All that an emission tests.
-pub fn bin_ok(cell: &[u64], n: usize, bins: usize, t: u64, k: usize) -> bool
-    requires { Fits cell.now n bins × (k < 2 * bins) }
-    ensures { result ≡ emit_sound n t k (places_of n bins cell.now) }
+pub fn bin_ok(cell: Cell, t: u64, k: usize) -> bool
+    requires { k < 2 * cell.shape.bins }
+    ensures { result ≡ emit_sound cell.entry.shape.lags t k (places_in cell.entry) }
 {
-    let at = bin_start(n, bins, k);
-    let row = row_ok(cell, at + ROW, n, BIN_LIMIT);
-    let state = cell[at];
-    (row & (cell[at + STAMP] <= t)) & ((state <= READY) & ((1 <= state) | (cell[at + ROW] == 0)))
+    let words = cell.words;
+    let at = cell.shape.bin_start(k);
+    let row = row_ok(words, at + ROW, cell.shape.lags, BIN_LIMIT);
+    let state = words[at];
+    (row & (words[at + STAMP] <= t)) & ((state <= READY) & ((1 <= state) | (words[at + ROW] == 0)))
 }
 
 // Would the joint set pass a bin's limit?
 pub fn too_wide(ticks: u64, held: u64) -> bool
     ensures { result ≡ ltb bin_limit (ticks + held) }
 {
-    if ticks > BIN_LIMIT {
-        return true;
-    }
-    BIN_LIMIT - ticks < held
+    ticks > BIN_LIMIT || BIN_LIMIT - ticks < held
 }
 
 // What an emission leaves of bin k: Free and empty, its stamp as it was.
-pub fn empty_bin(cell: &mut [u64], n: usize, bins: usize, k: usize)
-    requires { Fits cell.old n bins × (k < 2 * bins) }
-    ensures { Changes n bins (empty_bin n k) cell.old cell.new }
+pub fn empty_bin(cell: &mut [u64], shape: CellShape, k: usize)
+    requires { IsCell shape cell.old × (k < 2 * shape.bins) }
+    ensures { Changes shape.lags shape.bins (empty_bin shape.lags k) cell.old cell.new }
 {
-    let at = bin_start(n, bins, k);
-    let w = row_words(n);
-    clear(&mut *cell, at + ROW, w);
+    let at = shape.bin_start(k);
+    clear(cell, at + ROW, shape.row_words());
     cell[at] = FREE;
 }

@@ -1,27 +1,20 @@
 -- What is known of a slice that fits a cell: its length, and the lengths of the lists in it.
 use mathlib.Core.Path.{refl, sym, ◌∙◌}
 use mathlib.Core.List.{List}
-use Prim.Native.Nat.{ℕ, suc, ◌+◌, ◌*◌, ◌<◌, ◌≤◌}
+use Prim.Native.Nat.{ℕ, suc, ◌*◌, ◌<◌, ◌≤◌}
 use native.Mathlib.Nat.{mul-le-mul_right, suc-mul}
 use native.Mathlib.Omega.{arith}
 use lib.ListN.{length}
-use Rattle.lta_spec.specs.Size.{row_words, bin_words, cell_words}
-use Rattle.lta_spec.specs.Place.{loss_count}
+use Rattle.lta_spec.specs.Size.{bin_words, cell_words}
 use Rattle.lta_spec.specs.Memory.{unit_layout}
 use Rattle.lta_spec.proofs.ShapeLaws.{cell-small}
 use Rattle.lta_spec.proofs.MemoryLaws.{UnitOk, unit-law, unit-width}
 use Rattle.cell_layout.specs.Lays.{Lays}
-use Rattle.cell_layout.specs.Offsets.{loss_row_at, state_at, fixed_words, Stands}
+use Rattle.cell_layout.specs.Offsets.{state_at, fixed_words, Stands}
 use Rattle.cell_layout.specs.Cells.{Fits, unit_of}
 use Rattle.cell_layout.proofs.LaysLaws.{lays}
 
--- where a loss and a bin stand
-pub loss-stands : (n i : ℕ) → n ≤ 128 → i < loss_count
-    → Stands (loss_row_at n i) (row_words n) (fixed_words n) (loss_row_at n i)
-loss-stands n i a h =
-    let k : (3 + i) * row_words n ≤ 8 * row_words n = mul-le-mul_right (row_words n) (omega arith) in
-    record { is = refl; inside = omega (arith, suc-mul (2 + i) (row_words n)); small = omega arith }
-
+-- where a bin stands
 pub bin-stands : (n bins k : ℕ) → n ≤ 128 → bins ≤ 1000 → k < 2 * bins
     → Stands (state_at n k) (bin_words n) (cell_words n bins) (state_at n k)
 bin-stands n bins k a b h =

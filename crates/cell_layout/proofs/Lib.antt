@@ -4,5 +4,6 @@ pub mod Field
 pub mod LaysLaws
 pub mod Fields
 pub mod CellLaws
+pub mod ViewLaws
 pub mod RowLaws
 pub mod Blank

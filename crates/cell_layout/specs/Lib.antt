@@ -2,4 +2,5 @@
 pub mod Lays
 pub mod Offsets
 pub mod Cells
+pub mod Views
 pub mod Moves

@@ -2,11 +2,14 @@
 // proofs/ the laws by which a store in the words is a change of the field.
 #![tactic(auto)]
 
-ghost use Rattle.std.specs.Prelude.{◌≡◌, ◌+◌, ◌*◌, ◌<◌, ◌≤◌};
-ghost use Rattle.lta_spec.specs.Size.{row_words, depth, bin_words, cell_words};
-ghost use Rattle.lta_spec.specs.Place.{loss_count};
+ghost use Rattle.std.specs.Prelude.{◌≡◌, ◌<◌};
 ghost use Rattle.lta_spec.specs.Engine.{after};
-ghost use Rattle.cell_layout.specs.Offsets.{held_row_at, loss_row_at, xs_at, ys_at, state_at, fixed_words, Stands};
+
+mod cell;
+mod shape;
+
+pub use cell::Cell;
+pub use shape::CellShape;
 
 // In work memory: t; then the cells; in its last word the cell at which the next pick starts.
 pub const TIME: usize = 0;
@@ -96,61 +99,10 @@ pub const FILLING: u64 = 1;
 
 pub const READY: u64 = 2;
 
-// The words of a row of n lags.
-pub fn row_words(n: usize) -> usize
-    requires { n ≤ 128 }
-    ensures { result ≡ row_words n }
-{
-    SUMS + 2 * n
-}
-
-// Where Held's row starts.
-pub fn held_row(n: usize) -> usize
-    requires { n ≤ 128 }
-    ensures { Stands (held_row_at n) (row_words n) (fixed_words n) result }
-{
-    OPEN_ROW + row_words(n)
-}
-
-// Where the row of loss i + 1 starts.
-pub fn loss_row(n: usize, i: usize) -> usize
-    requires { (n ≤ 128) × (i < loss_count) }
-    ensures { Stands (loss_row_at n i) (row_words n) (fixed_words n) result }
-{
-    OPEN_ROW + (2 + i) * (SUMS + 2 * n)
-}
-
-// Where the X shift register starts.
-pub fn x_register(n: usize) -> usize
-    requires { n ≤ 128 }
-    ensures { Stands (xs_at n) (depth n) (fixed_words n) result }
-{
-    OPEN_ROW + 8 * row_words(n)
-}
-
-// Where the Y shift register starts.
-pub fn y_register(n: usize) -> usize
-    requires { n ≤ 128 }
-    ensures { Stands (ys_at n) (depth n) (fixed_words n) result }
-{
-    x_register(n) + n / 2 + 1
-}
-
-// Where bin k of both banks starts, of a cell with so many bins to a bank.
-pub fn bin_start(n: usize, bins: usize, k: usize) -> usize
-    requires { (n ≤ 128) × ((bins ≤ 1000) × (k < 2 * bins)) }
-    ensures { Stands (state_at n k) (bin_words n) (cell_words n bins) result }
-{
-    y_register(n) + n / 2 + 1 + k * (ROW + (SUMS + 2 * n))
-}
-
 // The place behind place k of so many, and behind the last one the first.
 pub fn place_after(size: u64, k: u64) -> u64
     requires { k < size }
     ensures { result ≡ after size k }
 {
-    if k + 1 < size {
-        return k + 1;
-    }
-    0
+    if k + 1 < size { k + 1 } else { 0 }
 }

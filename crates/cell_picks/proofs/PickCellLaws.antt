@@ -15,14 +15,16 @@ use Rattle.lta_spec.specs.Damage.{bin_ok, emit_sound, count_ready, pick_sound}
 use Rattle.lta_spec.proofs.WordLaws.{over-next}
 use Rattle.lta_spec.proofs.TestLaws.{bit-small, every-next}
 use Rattle.cell_layout.specs.Offsets.{ready_bins_at, next_bin_at}
+use Rattle.cell_layout.specs.declared.cell.Cell.{Cell}
 use Rattle.cell_layout.specs.Cells.{Fits, unit_of, places_of}
+use Rattle.cell_layout.specs.Views.{places_in}
 use Rattle.cell_layout.proofs.LaysLaws.{word_of}
 use Rattle.cell_layout.proofs.Fields as F
 use Rattle.cell_layout.proofs.CellLaws.{laid, lists}
 
 -- is bin k Ready?
-abbrev pub ready_at : (n bins : ℕ) (cell : List ℕ) → ℕ → Bool
-ready_at n bins cell k = eqb (bin_at n k (places_of n bins cell)).state ready
+abbrev pub ready_in : Cell → ℕ → Bool
+ready_in c k = eqb (bin_at c.shape.lags k (places_in c)).state ready
 
 -- one Ready bin more at most
 pub one_more : (count k state after : ℕ) → count ≤ k → after ≡ count + cond (eqb state ready) 1 0 → after ≤ k + 1

@@ -7,9 +7,10 @@ ghost use Rattle.lta_spec.specs.Place.{loss_count};
 ghost use Rattle.lta_spec.specs.Row.{unbiased, row_sums};
 ghost use Rattle.lta_spec.specs.Engine.{loss_at, forecast_of};
 ghost use Rattle.lta_spec.specs.Damage.{read_sound, forecast_sound};
-ghost use Rattle.cell_layout.specs.Cells.{Fits, sum_limit, places_of};
+ghost use Rattle.cell_layout.specs.Cells.{sum_limit};
+ghost use Rattle.cell_layout.specs.Views.{places_in};
 
-use cell_layout::{CENTRE, EDGE, OPEN_LIMIT, OPEN_ROW, SUMS, TICKS, loss_row};
+use cell_layout::{CENTRE, Cell, EDGE, OPEN_LIMIT, OPEN_ROW, SUMS, TICKS};
 use lta_spec::{PEAK, Sums};
 
 // A stored sum without its bias.
@@ -21,28 +22,28 @@ fn unbias(ticks: u64, stored: u64) -> i64
 }
 
 // The numbers of loss i + 1 at one lag.
-pub fn read_loss(cell: &[u64], n: usize, bins: usize, lag: usize, i: usize) -> Sums
-    requires { (Fits cell.now n bins × (lag < n) × (i < loss_count))
-        × (read_sound (places_of n bins cell.now) ≡ true) }
-    ensures { result ≡ row_sums lag (loss_at n i (places_of n bins cell.now).losses) }
+pub fn read_loss(cell: Cell, lag: usize, i: usize) -> Sums
+    requires { (lag < cell.shape.lags) × (i < loss_count) × (read_sound (places_in cell) ≡ true) }
+    ensures { result ≡ row_sums lag (loss_at cell.entry.shape.lags i (places_in cell.entry).losses) }
 {
-    let at = loss_row(n, i);
-    let ticks = cell[at + TICKS];
+    let words = cell.words;
+    let at = cell.shape.loss_row(i);
+    let ticks = words[at + TICKS];
     let in_phase = at + (SUMS + 2 * lag);
     let quadrature = at + (SUMS + 1 + 2 * lag);
     Sums {
-        i: unbias(ticks, cell[in_phase]),
-        q: unbias(ticks, cell[quadrature]),
+        i: unbias(ticks, words[in_phase]),
+        q: unbias(ticks, words[quadrature]),
         ticks,
-        edge: cell[at + EDGE],
-        centre: cell[at + CENTRE],
+        edge: words[at + EDGE],
+        centre: words[at + CENTRE],
     }
 }
 
 // The ticks that Open still takes.
-pub fn forecast_cell(cell: &[u64], n: usize, bins: usize, t: u64) -> u64
-    requires { Fits cell.now n bins × (forecast_sound t (places_of n bins cell.now) ≡ true) }
-    ensures { result ≡ forecast_of (places_of n bins cell.now) }
+pub fn forecast_cell(cell: Cell, t: u64) -> u64
+    requires { forecast_sound t (places_in cell) ≡ true }
+    ensures { result ≡ forecast_of (places_in cell.entry) }
 {
-    OPEN_LIMIT - cell[OPEN_ROW]
+    OPEN_LIMIT - cell.words[OPEN_ROW]
 }

@@ -6,42 +6,39 @@ ghost use Rattle.lta_spec.specs.Place.{ready};
 ghost use Rattle.lta_spec.specs.Engine.{bin_at};
 ghost use Rattle.lta_spec.specs.Damage.{number_fits};
 ghost use Rattle.lta_spec.specs.Memory.{unit_layout};
-ghost use Rattle.cell_layout.specs.Cells.{Fits, unit_of, places_of};
+ghost use Rattle.cell_layout.specs.Views.{unit_in, places_in, IsCell, unit_by};
 ghost use Rattle.cell_layout.specs.Lays.{Lays};
 ghost use Rattle.cell_ready.specs.Taken.{taken};
 
 use cell_bins::empty_bin;
-use cell_layout::{READY, READY_BINS, bin_start};
+use cell_layout::{Cell, CellShape, READY, READY_BINS};
 
 // The number that cannot be, by the state of the bin that is tested: 0 where it is Ready, all where it isn't.
 fn wrong_number(state: u64, all: u64) -> u64
     ensures { result ≡ cond (eqb state ready) 0 all }
 {
-    if state == READY {
-        return 0;
-    }
-    all
+    if state == READY { 0 } else { all }
 }
 
 // Is the number within the bins, and not one that bin k shows to be wrong?
-pub fn number_fits(cell: &[u64], n: usize, bins: usize, k: usize) -> bool
-    requires { Fits cell.now n bins × (k < 2 * bins) }
+pub fn number_fits(cell: Cell, k: usize) -> bool
+    requires { k < 2 * cell.shape.bins }
     ensures { result
-        ≡ number_fits bins (unit_of n bins cell.now).picks.ready_bins
-        (eqb (bin_at n k (places_of n bins cell.now)).state ready) }
+        ≡ number_fits cell.entry.shape.bins (unit_in cell.entry).picks.ready_bins
+        (eqb (bin_at cell.entry.shape.lags k (places_in cell.entry)).state ready) }
 {
-    let at = bin_start(n, bins, k);
-    let all = (2 * bins) as u64;
-    let number = cell[READY_BINS];
-    let wrong = wrong_number(cell[at], all);
+    let all = cell.shape.all_bins() as u64;
+    let number = cell.words[READY_BINS];
+    let wrong = wrong_number(cell.words[cell.shape.bin_start(k)], all);
     (number <= all) & (number != wrong)
 }
 
 // What an emission leaves of a cell: bin k Free and empty, its stamp as it was, and one Ready bin less.
-pub fn take_bin(cell: &mut [u64], n: usize, bins: usize, k: usize)
-    requires { (Fits cell.old n bins × (k < 2 * bins)) × (1 ≤ (unit_of n bins cell.old).picks.ready_bins) }
-    ensures { Lays (unit_layout n bins) cell.new (taken n k (unit_of n bins cell.old)) }
+pub fn take_bin(cell: &mut [u64], shape: CellShape, k: usize)
+    requires { (IsCell shape cell.old × (k < 2 * shape.bins))
+        × (1 ≤ (unit_by shape cell.old).picks.ready_bins) }
+    ensures { Lays (unit_layout shape.lags shape.bins) cell.new (taken shape.lags k (unit_by shape cell.old)) }
 {
-    empty_bin(&mut *cell, n, bins, k);
-    cell[READY_BINS] = cell[READY_BINS] - 1;
+    empty_bin(cell, shape, k);
+    cell[READY_BINS] -= 1;
 }

@@ -3,20 +3,17 @@
 
 ghost use Rattle.lta_spec.specs.Memory.{unit_layout};
 ghost use Rattle.cell_layout.specs.Lays.{Lays};
-ghost use Rattle.cell_layout.specs.Cells.{Fits, unit_of};
+ghost use Rattle.cell_layout.specs.Views.{IsCell, unit_by};
 ghost use Rattle.cell_shift.specs.Shifts.{moved};
 
-use cell_layout::{x_register, y_register};
+use cell_layout::CellShape;
 use lag_registers::shift;
 
 // Both shift registers move: they take the entries x and y.
-pub fn shift_both(cell: &mut [u64], n: usize, bins: usize, x: u64, y: u64)
-    requires { Fits cell.old n bins }
-    ensures { Lays (unit_layout n bins) cell.new (moved n x y (unit_of n bins cell.old)) }
+pub fn shift_both(cell: &mut [u64], shape: CellShape, x: u64, y: u64)
+    requires { IsCell shape cell.old }
+    ensures { Lays (unit_layout shape.lags shape.bins) cell.new (moved shape.lags x y (unit_by shape cell.old)) }
 {
-    let xs = x_register(n);
-    let ys = y_register(n);
-    let depth = n / 2 + 1;
-    shift(&mut *cell, xs, depth, x);
-    shift(&mut *cell, ys, depth, y);
+    shift(cell, shape.x_register(), shape.depth(), x);
+    shift(cell, shape.y_register(), shape.depth(), y);
 }

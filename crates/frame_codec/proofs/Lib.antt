@@ -1,3 +1,2 @@
--- Laws of the stores of bytes, and of those of a frame's words.
+-- Laws of the stores and the reading of words.
 pub mod Laws
-pub mod FrameStores

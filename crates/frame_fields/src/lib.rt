@@ -4,9 +4,11 @@
 ghost use Rattle.std.specs.Prelude.{◌≡◌, true, ◌+◌, ◌/◌, ◌%◌, ◌<◌, ◌≤◌};
 ghost use Rattle.lta_spec.specs.Bytes.{word_range};
 ghost use Rattle.lta_spec.specs.Frame.{fields_ok};
+ghost use Rattle.frame_header.specs.Kind.{kind_number};
 ghost use Rattle.frame_fields.specs.Emits.{Emits, fields_from};
 
 use cell_layout::{CENTRE, EDGE, TICKS};
+use frame_header::FrameKind;
 use lta_spec::{Fields, Shape};
 
 // The Y block of a data bin: S + (data bin mod M).
@@ -36,15 +38,15 @@ fn offset_of(rate: u64, stamp: u64) -> u32
 // The fields of the frame of a row, a bin's or Open's.
 pub fn emitted_fields(
     s: Shape,
-    kind: u32,
+    kind: FrameKind,
     cell: u64,
     bank: u64,
     bin: u64,
     stamp: u64,
     row: &[u64],
 ) -> Fields
-    requires { Emits s kind cell bank bin stamp row.now }
-    ensures { (result ≡ fields_from s kind cell bank bin stamp row.now) × (fields_ok result ≡ true) }
+    requires { Emits s (kind_number kind) cell bank bin stamp row.now }
+    ensures { (result ≡ fields_from s (kind_number kind) cell bank bin stamp row.now) × (fields_ok result ≡ true) }
 {
     let ticks = row[TICKS] as u32;
     let edge = row[EDGE] as u32;
@@ -53,15 +55,15 @@ pub fn emitted_fields(
     let second = second_of(s.second, s.rate, stamp);
     let offset = offset_of(s.rate, stamp);
     Fields {
-        kind: kind,
+        kind: kind.into(),
         cell: cell as u32,
-        block: block,
+        block,
         bin: bin as u32,
         bank: bank as u32,
-        ticks: ticks,
-        centre: centre,
-        edge: edge,
-        second: second,
-        offset: offset,
+        ticks,
+        centre,
+        edge,
+        second,
+        offset,
     }
 }

@@ -1,4 +1,4 @@
--- A tick that is added to a row: what it asks of the words, the words lent to it, and what it leaves.
+-- A tick that is added to a row: what it asks of the words, and what it leaves.
 use Rattle.std.specs.Prelude.{◌≡◌, cond, List, [], ◌∷◌, map, ℕ, ◌+◌, ◌*◌, ◌/◌, ◌<◌, ◌≤◌, ◌^◌, length, get_or}
 use Rattle.lta_spec.specs.Words.{part, splice, sums}
 use Rattle.lta_spec.specs.Shape.{peak}
@@ -23,12 +23,6 @@ pub record Ready (l : List ℕ) (x y to n : ℕ) : Type 0 where
   pub y-in : y + depth n ≤ length l
   pub to_in : to + row_words n ≤ length l
   pub room : (i : ℕ) → i < row_words n → get_or l (to + i) 0 + 2 * peak < 2 ^ 64
-
--- small words lent to a tick of n lags, enough for two decoded registers and for I and Q
-pub record Lent (n : ℕ) (xs ys terms : List ℕ) : Type 0 where
-  pub x-long : 3 * depth n ≤ length xs
-  pub y-long : 3 * depth n ≤ length ys
-  pub terms-long : 2 * n ≤ length terms
 
 -- the words after the tick whose registers stand at x and y is added to the row at `to`
 abbrev pub ticked : (l : List ℕ) (x y to n : ℕ) → List ℕ

@@ -15,14 +15,9 @@ fn add_counts(s: &mut [u64], to: usize, edge: u64, centre: u64)
     ensures { s.new
         ≡ splice s.old to (sums (part to 3 s.old) (1 ∷ edge ∷ centre ∷ [])) }
 {
-    let a = to + 1;
-    let b = to + 2;
-    let ticks = s[to];
-    let edges = s[a];
-    let centres = s[b];
-    s[to] = ticks + 1;
-    s[a] = edges + edge;
-    s[b] = centres + centre;
+    s[to] += 1;
+    s[to + 1] += edge;
+    s[to + 2] += centre;
 }
 
 // Counts a tick of n lags in the row at `to`, by the validity of the decoded entries that meet at lags 0 and N/2.
@@ -37,5 +32,5 @@ pub fn count_tick(s: &mut [u64], xs: &[u16], ys: &[u16], to: usize, n: usize)
     let flags = 2 * (h + 1);
     let edge = both_valid(xs[flags], ys[flags]);
     let centre = both_valid(xs[flags + (h + 1) / 2], ys[flags + h / 2]);
-    add_counts(&mut *s, to, edge, centre);
+    add_counts(s, to, edge, centre);
 }

@@ -1,3 +1,3 @@
--- Laws of what the loops over registers write, and of decoded entries.
+-- Laws of a register that moves, and of decoded entries.
 pub mod Loops
 pub mod Decoding

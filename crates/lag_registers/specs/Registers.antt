@@ -1,26 +1,13 @@
 -- Shift registers as they are read: gathered in small words, and decoded.
-use Rattle.std.specs.Prelude.{◌≡◌, List, [], ◌∷◌, ◌++◌, ℕ, zero, suc, ◌+◌, ◌-◌, ◌/◌, ◌%◌, ◌<◌, get_or}
-use Rattle.lta_spec.specs.Words.{part, splice}
+use Rattle.std.specs.Prelude.{◌≡◌, List, ℕ, ◌-◌, ◌/◌, ◌%◌, ◌<◌, get_or}
+use Rattle.lta_spec.specs.Words.{part}
 use Rattle.lta_spec.specs.Size.{depth}
 use Rattle.signal.specs.Signal.{sample_of, phase_of, valid_of}
 use Rattle.signal.specs.Decoded.{sample_in, phase_in, flag_in, ZeroWhereInvalid}
 
--- f 0 to f (m - 1), as a loop going up writes them
-abbrev pub listed : (f : ℕ → ℕ) (m : ℕ) → List ℕ
-listed f zero = []
-listed f (suc m) = listed f m ++ f m ∷ []
-
--- an array whose first m words a loop has written
-abbrev pub filled : (d : List ℕ) (f : ℕ → ℕ) (m : ℕ) → List ℕ
-filled d f m = splice d 0 (listed f m)
-
--- the entry of j ticks ago of the register at `at`, as a small word
-abbrev pub word_at : (l : List ℕ) (at j : ℕ) → ℕ
-word_at l at j = get_or l (at + j) 0 % 65536
-
--- entry j of a register of m entries, oldest first
-abbrev pub word_back : (l : List ℕ) (at m j : ℕ) → ℕ
-word_back l at m j = word_at l at (m - 1 - j)
+-- word j of a register, as a small word
+abbrev pub low_word : (ws : List ℕ) (j : ℕ) → ℕ
+low_word ws j = get_or ws j 0 % 65536
 
 -- word j of a list
 abbrev pub word : (ws : List ℕ) (j : ℕ) → ℕ

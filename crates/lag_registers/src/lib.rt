@@ -2,45 +2,35 @@
 // is X[j] · Y[j] and lag 2j + 1 is X[j + 1] · Y[j].
 #![tactic(auto)]
 
-ghost use Rattle.std.specs.Prelude.{◌≡◌, ◌∷◌, ◌+◌, ◌*◌, ◌≤◌, length, take};
+ghost use Rattle.std.specs.Prelude.{◌≡◌, ◌∷◌, ℕ, ◌+◌, ◌-◌, ◌*◌, ◌<◌, ◌≤◌, length, take, slice_index};
 ghost use Rattle.lta_spec.specs.Words.{part, splice};
 ghost use Rattle.lta_spec.specs.Size.{depth};
-ghost use Rattle.lag_registers.specs.Registers.{filled, word_at, word_back, word, Decodes, Registers};
+ghost use Rattle.lag_registers.specs.Registers.{low_word, word, Decodes, Registers};
 
 use signal::{phase_of, sample_of, valid_of};
 
-// A shift register moves: it takes a new entry, and the oldest falls out. From its end, so that each word is read
-// before it is written.
+// A shift register moves: it takes a new entry, and the oldest falls out.
 pub fn shift(s: &mut [u64], at: usize, depth: usize, entry: u64)
     requires { (at + depth ≤ length s.old) × (1 ≤ depth) }
     ensures { s.new
         ≡ splice s.old at (take depth (entry ∷ part at depth s.old)) }
 {
-    let mut j = depth - 1;
-    while j > 0 {
-        let k = at + j;
-        let newer = s[k - 1];
-        s[k] = newer;
-        j -= 1;
-    }
-    s[at] = entry;
+    let register = &mut s[at..at + depth];
+    register.copy_within(..depth - 1, 1);
+    register[0] = entry;
 }
 
-// Gathers the X and Y registers of m entries at x and y in small words: X newest first, Y oldest first. An entry has
-// nine bits; sixteen are taken, since that leaves nothing to mask.
-fn gather(s: &[u64], x: usize, y: usize, m: usize, xs: &mut [u16], ys: &mut [u16])
-    requires { (x + m ≤ length s.now) × (y + m ≤ length s.now) × (m ≤ length xs.old)
-        × (m ≤ length ys.old) }
-    ensures { (xs.new ≡ filled xs.old (word_at s.now x) m)
-        × (ys.new ≡ filled ys.old (word_back s.now y m) m) }
+// Gathers the registers x and y in small words: X newest first, Y oldest first. An entry has nine bits; sixteen are
+// taken, since that leaves nothing to mask.
+fn gather(x: &[u64], y: &[u64], xs: &mut [u16], ys: &mut [u16])
+    requires { (length y.now ≡ length x.now) × (length x.now ≤ length xs.old) × (length x.now ≤ length ys.old) }
+    ensures newest_first { (j : ℕ) → j < length x.now → slice_index xs.new j ≡ low_word x.now j }
+    ensures oldest_first { (j : ℕ) → j < length x.now → slice_index ys.new j ≡ low_word y.now (length x.now - 1 - j) }
 {
-    let mut j: usize = 0;
-    while j < m {
-        let v = s[x + j];
-        let w = s[y + (m - 1 - j)];
-        xs[j] = (v % 65536) as u16;
-        ys[j] = (w % 65536) as u16;
-        j += 1;
+    let m = x.len();
+    for j in 0..m {
+        xs[j] = (x[j] % 65536) as u16;
+        ys[j] = (y[m - 1 - j] % 65536) as u16;
     }
 }
 
@@ -50,13 +40,11 @@ fn decode(ws: &mut [u16], m: usize)
     requires { 3 * m ≤ length ws.old }
     ensures { Decodes (word ws.old) m m ws.new }
 {
-    let mut j: usize = 0;
-    while j < m {
+    for j in 0..m {
         let w = ws[j];
         ws[j] = sample_of(w);
         ws[m + j] = phase_of(w);
         ws[2 * m + j] = valid_of(w);
-        j += 1;
     }
 }
 
@@ -67,7 +55,7 @@ pub fn read_registers(s: &[u64], x: usize, y: usize, n: usize, xs: &mut [u16], y
     ensures { Registers s.now x y n xs.new ys.new }
 {
     let m = n / 2 + 1;
-    gather(s, x, y, m, &mut *xs, &mut *ys);
-    decode(&mut *xs, m);
-    decode(&mut *ys, m);
+    gather(&s[x..x + m], &s[y..y + m], xs, ys);
+    decode(xs, m);
+    decode(ys, m);
 }

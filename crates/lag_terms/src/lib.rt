@@ -35,11 +35,8 @@ pub fn put_lags(xs: &[u16], ys: &[u16], h: usize, terms: &mut [u16])
         ≡ splice terms.old 0 (lag_terms xs.now ys.now (h + 1) h) }
 {
     let m = h + 1;
-    let mut j: usize = 0;
-    while j < h {
-        let i = j + 1;
-        put_lag(xs, ys, m, j, j, 4 * j, &mut *terms);
-        put_lag(xs, ys, m, i, j, 4 * j + 2, &mut *terms);
-        j = i;
+    for j in 0..h {
+        put_lag(xs, ys, m, j, j, 4 * j, terms);
+        put_lag(xs, ys, m, j + 1, j, 4 * j + 2, terms);
     }
 }

@@ -4,7 +4,6 @@ ghost use Rattle.lta_spec.specs.FrameCalls.{write_answer, write_leaves};
 ghost use Rattle.host_pack.specs.Boundary.{fields_in, packed, stored, head_in, pair_in};
 ghost use Rattle.lta_c.specs.Answers.{read_told, part_told, normal_told};
 
-use host_answer::written;
 use host_pack::numbers::fields_in;
 use host_pack::pack::pack;
 use host_values::{store_fields, store_pair};
@@ -16,7 +15,7 @@ pub extern "C" fn lta_read_frame(lags: u64, bytes: &[u8], head: &mut [u32]) -> u
     ensures leaves { head.new
         ≡ stored head.old 0 (head_in (read_told lags bytes.now head.old)) }
 {
-    store_fields(frame::read_frame(lags, bytes), &mut *head)
+    store_fields(frame::read_frame(lags, bytes), head)
 }
 
 // Where the part of a frame is that holds its lag pairs: 65,536 × offset + length.
@@ -24,8 +23,8 @@ pub extern "C" fn lta_read_frame(lags: u64, bytes: &[u8], head: &mut [u32]) -> u
 pub extern "C" fn lta_lag_part(lags: u64, bytes: &[u8]) -> u64
     ensures { result ≡ part_told lags bytes.now }
 {
-    let p = frame::lag_span(lags, bytes);
-    65536 * p.at + p.length
+    let part = frame::lag_span(lags, bytes);
+    65536 * part.at + part.length
 }
 
 // The frame of ten fields and 2N lag numbers, at the start of out.
@@ -37,7 +36,7 @@ pub extern "C" fn lta_write_frame(lags: u64, head: &[u32], numbers: &[i32], out:
     ensures leaves { out.new
         ≡ write_leaves lags (fields_in head.now) numbers.now out.old }
 {
-    pack(written(frame::write_frame(lags, fields_in(head), numbers, &mut *out)))
+    pack(frame::write_frame(lags, fields_in(head), numbers, out))
 }
 
 // One lag of a frame, normalised by its centre count.
@@ -47,5 +46,5 @@ pub extern "C" fn lta_normalised_lag(lags: u64, bytes: &[u8], lag: u64, pair: &m
     ensures leaves { pair.new
         ≡ stored pair.old 0 (pair_in (normal_told lags bytes.now lag pair.old)) }
 {
-    store_pair(frame::normalised_lag(lags, bytes, lag), &mut *pair)
+    store_pair(frame::normalised_lag(lags, bytes, lag), pair)
 }

@@ -5,7 +5,6 @@ ghost use Rattle.lta_spec.specs.Step.{size_answer, setup_answer, setup_leaves, s
 ghost use Rattle.host_pack.specs.Boundary.{shape_of, packed, stored, sums_in, counts_in};
 ghost use Rattle.lta_c.specs.Answers.{reading_told};
 
-use host_answer::{forecast, moved, needed, started, ticked, written};
 use host_pack::numbers::shape_of;
 use host_pack::pack::pack;
 use host_values::store_sums;
@@ -15,7 +14,7 @@ use host_values::store_sums;
 pub extern "C" fn lta_words_needed(shape: &[u64]) -> u64
     ensures { result ≡ packed (size_answer (shape_of shape.now)) }
 {
-    pack(needed(lta::words_needed(shape_of(shape))))
+    pack(lta::words_needed(shape_of(shape)))
 }
 
 // A fresh run in the work memory lent.
@@ -24,7 +23,7 @@ pub extern "C" fn lta_setup(shape: &[u64], mem: &mut [u64]) -> u64
     ensures answer { result ≡ packed (setup_answer (shape_of shape.now) mem.old) }
     ensures leaves { mem.new ≡ setup_leaves (shape_of shape.now) mem.old }
 {
-    pack(started(lta::setup(shape_of(shape), &mut *mem)))
+    pack(lta::setup(shape_of(shape), mem).map(|()| 0))
 }
 
 // A tick of every cell.
@@ -35,7 +34,7 @@ pub extern "C" fn lta_tick(shape: &[u64], mem: &mut [u64], samples: &[u8]) -> u6
     ensures leaves { mem.new
         ≡ (step (shape_of shape.now) (tick samples.now) mem.old).mem }
 {
-    pack(ticked(lta::tick(shape_of(shape), &mut *mem, samples)))
+    pack(lta::tick(shape_of(shape), mem, samples))
 }
 
 // A dump of one cell; a speed dump puts its frame into the front of out.
@@ -57,15 +56,7 @@ pub extern "C" fn lta_dump(
     ensures leaves { mem.new
         ≡ (step (shape_of shape.now) (dump cell command bank phase out.old) mem.old).mem }
 {
-    pack(moved(lta::dump(
-        shape_of(shape),
-        &mut *mem,
-        cell,
-        command,
-        bank,
-        phase,
-        &mut *out,
-    )))
+    pack(lta::dump(shape_of(shape), mem, cell, command, bank, phase, out).map(u64::from))
 }
 
 // An integration of one cell.
@@ -76,7 +67,7 @@ pub extern "C" fn lta_integrate(shape: &[u64], mem: &mut [u64], cell: u64) -> u6
     ensures leaves { mem.new
         ≡ (step (shape_of shape.now) (integrate cell) mem.old).mem }
 {
-    pack(moved(lta::integrate(shape_of(shape), &mut *mem, cell)))
+    pack(lta::integrate(shape_of(shape), mem, cell).map(u64::from))
 }
 
 // An emission: the frame of a Ready bin into the front of out.
@@ -96,7 +87,7 @@ pub extern "C" fn lta_emit(
     ensures leaves { mem.new
         ≡ (step (shape_of shape.now) (emit cell bank bin out.old) mem.old).mem }
 {
-    pack(written(lta::emit(shape_of(shape), &mut *mem, cell, bank, bin, &mut *out)))
+    pack(lta::emit(shape_of(shape), mem, cell, bank, bin, out))
 }
 
 // A pick: the frame of the Ready bin whose turn it is into the front of out.
@@ -109,7 +100,7 @@ pub extern "C" fn lta_pick(shape: &[u64], mem: &mut [u64], out: &mut [u8]) -> u6
     ensures leaves { mem.new
         ≡ (step (shape_of shape.now) (pick out.old) mem.old).mem }
 {
-    pack(written(lta::pick(shape_of(shape), &mut *mem, &mut *out)))
+    pack(lta::pick(shape_of(shape), mem, out))
 }
 
 // The numbers of one loss of one cell at one lag.
@@ -139,8 +130,8 @@ pub extern "C" fn lta_reading(
 {
     store_sums(
         lta::reading(shape_of(shape), mem, cell, lag, loss),
-        &mut *sums,
-        &mut *counts,
+        sums,
+        counts,
     )
 }
 
@@ -150,7 +141,7 @@ pub extern "C" fn lta_forecast(shape: &[u64], mem: &[u64], cell: u64) -> u64
     ensures { result
         ≡ packed (step (shape_of shape.now) (forecast cell) mem.now).answer }
 {
-    pack(forecast(lta::forecast(shape_of(shape), mem, cell)))
+    pack(lta::forecast(shape_of(shape), mem, cell))
 }
 
 // A loss page into the front of out.
@@ -161,5 +152,5 @@ pub extern "C" fn lta_page(shape: &[u64], mem: &[u64], out: &mut [u8]) -> u64
     ensures page { out.new
         ≡ (step (shape_of shape.now) (page out.old) mem.now).out }
 {
-    pack(written(lta::page(shape_of(shape), mem, &mut *out)))
+    pack(lta::page(shape_of(shape), mem, out))
 }

@@ -1,4 +1,5 @@
 -- 11 never arises: the machine has no such answer.
+use Rattle.std.specs.Prelude.{Ok, Err}
 use Prim.Native.Nat.{ℕ}
 use mathlib.Core.Path.{◌≡◌, refl, sym, ap, ◌∙◌}
 use mathlib.Core.Bool.{Bool, true, false, cond, not}
@@ -8,7 +9,7 @@ use mathlib.Core.Logic.{⊎_elim}
 use native.Mathlib.Omega.{arith}
 use lib.Dec.{eqb}
 use borrow.Author.Tests.{eq-eqb}
-use Rattle.lta_spec.specs.Refusals.{Test, refusal_number, first_of, decided}
+use Rattle.lta_spec.specs.Refusals.{Test, refusal_number, first_of, decided, Verdict}
 use Rattle.lta_spec.specs.Size.{memory_words, host_tests}
 use Rattle.lta_spec.specs.Words.{every}
 use Rattle.lta_spec.specs.Place.{Label}
@@ -22,8 +23,6 @@ use Rattle.lta_spec.specs.Demand.{Listed, Returned, machine_step, machine_return
 use Rattle.lta_spec.specs.Demand.Listed.{on_run, on_other}
 use Rattle.lta_spec.specs.declared.Shape.{Shape}
 use Rattle.lta_spec.specs.declared.Refusal.{Refusal}
-use Rattle.lta_spec.specs.declared.Verdict.{Verdict}
-use Rattle.lta_spec.specs.declared.Verdict.TheVariants.{Accepted, Refused}
 use Rattle.lta_spec.proofs.TestLaws.{and_both}
 
 -- a refusal that is not 11
@@ -37,14 +36,14 @@ absurdly : {A : Type 0} → true ≡ false → A
 absurdly e = let z : ◌≡◌ {A = ℕ} 0 1 = cc in absurd (omega arith)
 
 -- what is refused is refused by one of the tests
-first-other : (ts : List Test) → others ts ≡ true → (r : Refusal) → first_of ts ≡ Refused r → other r ≡ true
+first-other : (ts : List Test) → others ts ≡ true → (r : Refusal) → first_of ts ≡ Err r → other r ≡ true
 first-other [] h r e = let z : ◌≡◌ {A = ℕ} 0 1 = cc in absurd (omega arith)
 first-other (x ∷ xs) h r e =
     let a = and_both (other x.otherwise) (others xs) h in
     by-test x.passes a.0 (first-other xs a.1 r) e
   where
-    by-test : (b : Bool) → other x.otherwise ≡ true → (first_of xs ≡ Refused r → other r ≡ true)
-        → cond b (first_of xs) (Refused x.otherwise) ≡ Refused r → other r ≡ true
+    by-test : (b : Bool) → other x.otherwise ≡ true → (first_of xs ≡ Err r → other r ≡ true)
+        → cond b (first_of xs) (Err x.otherwise) ≡ Err r → other r ≡ true
     by-test true p ih q = ih q
     by-test false p ih q = let same : x.otherwise ≡ r = cc in ap other (sym same) ∙ p
 
@@ -86,8 +85,8 @@ step_other sh words call r =
     by-verdict : (v : Verdict) → first_of (host_tests sh words ++ R.call_tests sh r call) ≡ v
         → (decided {A = R.Step} v (λ why. record { answer = refusal why; out = lent_to call; run = r })
         (R.accepted sh call r)).answer ≡ refused 11 → ⊥
-    by-verdict Accepted v e = accepted-other sh call r e
-    by-verdict (Refused why) v e =
+    by-verdict (Ok _) v e = accepted-other sh call r e
+    by-verdict (Err why) v e =
         let eleven : refusal_number why ≡ 11 = cc in
         let p = first-other (host_tests sh words ++ R.call_tests sh r call) (tests-other sh r words call) why v in
         absurdly (sym p ∙ ap not (eq-eqb (refusal_number why) 11 eleven))

@@ -1,5 +1,6 @@
 -- The bytes of an emission and of a speed dump, read back, are what stood in the bin or in Open; and with that the
 -- whole statement of the round trips.
+use Rattle.std.specs.Prelude.{Ok}
 use Prim.Native.Nat.{ℕ, suc, ◌%◌, ◌≤◌, ◌<◌}
 use mathlib.Core.Path.{◌≡◌, sym, ap, ◌∙◌, refl}
 use mathlib.Core.Bool.{true}
@@ -28,7 +29,6 @@ use Rattle.lta_spec.specs.RoundTrip.{RoundTrip, RowBack, stored_bin, emitted_to,
 use Rattle.lta_spec.specs.RoundTrip.{stored_open, speed_bin, speed_to}
 use Rattle.lta_spec.specs.declared.Fields.{Fields}
 use Rattle.lta_spec.specs.declared.Shape.{Shape}
-use Rattle.lta_spec.specs.declared.Verdict.TheVariants as verdict
 use Rattle.lta_spec.proofs.WordLaws.{take-splice}
 use Rattle.lta_spec.proofs.ByteLaws.{below_all}
 use Rattle.lta_spec.proofs.TestLaws.{and_both, and-le}
@@ -97,7 +97,7 @@ module _ (sh : Shape) (ok : shape_ok sh ≡ true) (kind c bank bin : ℕ) (b : S
       let g = and_both (leb (edge_of row) (ticks_of row)) _ t.1 in
       (and_both (leb (centre_of row) (ticks_of row)) _ g.1).1
 
-  writable : write_verdict sh.lags sent lags room ≡ verdict.Accepted
+  writable : write_verdict sh.lags sent lags room ≡ Ok tt
   unfolding emitted_fields
   writable =
       written sh.lags sent lags room
@@ -167,7 +167,7 @@ module _ (sh : Shape) (c bank bin : ℕ) (mem out : List ℕ) (ok : shape_ok sh 
       limits.1 limits.0 out passed.room
 
 pub emitted-back : (sh : Shape) (c bank bin : ℕ) (mem out : List ℕ)
-    → S.verdict sh mem (emit c bank bin out) ≡ verdict.Accepted
+    → S.verdict sh mem (emit c bank bin out) ≡ Ok tt
     → RowBack sh accumulated c bank bin (stored_bin sh c bank bin mem) (emitted_to sh c bank bin mem out)
 unfolding S.step S.accepted
 emitted-back sh c bank bin mem out v =
@@ -175,7 +175,7 @@ emitted-back sh c bank bin mem out v =
     (emits-back sh c bank bin mem out (shape-passed sh mem _ v) (words-passed sh mem _ v)
     (emit-passed sh mem c bank bin out v))
 
-pub picked-back : (sh : Shape) (mem out : List ℕ) → S.verdict sh mem (pick out) ≡ verdict.Accepted
+pub picked-back : (sh : Shape) (mem out : List ℕ) → S.verdict sh mem (pick out) ≡ Ok tt
     → let p = picked_place sh mem in
     RowBack sh accumulated p.cell p.bank p.bin (stored_bin sh p.cell p.bank p.bin mem)
     (picked_to sh mem out)
@@ -186,7 +186,7 @@ picked-back sh mem out v =
 
 -- an accepted speed dump
 module _ (sh : Shape) (c bank phase : ℕ) (mem out : List ℕ)
-    (v : S.verdict sh mem (dump c speed bank phase out) ≡ verdict.Accepted) where
+    (v : S.verdict sh mem (dump c speed bank phase out) ≡ Ok tt) where
   abbrev opened : Stamped Row
   opened = stored_open sh c mem
 
@@ -225,8 +225,8 @@ same_kind [] behind h = absurd (omega arith)
 same_kind (x ∷ []) behind h = absurd (omega arith)
 same_kind (x ∷ y ∷ s) behind h = ap (λ w. w % 8) (first_word s behind (omega arith))
 
-one-kind : (n : ℕ) (s behind : List ℕ) → read_verdict n s ≡ verdict.Accepted
-    → read_verdict n (s ++ behind) ≡ verdict.Accepted → behind ≡ []
+one-kind : (n : ℕ) (s behind : List ℕ) → read_verdict n s ≡ Ok tt
+    → read_verdict n (s ++ behind) ≡ Ok tt → behind ≡ []
 one-kind n s behind v w =
     let a = accepted n s v in
     let b = accepted n (s ++ behind) w in

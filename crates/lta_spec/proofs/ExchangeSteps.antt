@@ -1,5 +1,6 @@
 -- Each call on a run, and the exchanged call on the run whose samples are exchanged: the runs stay so, and what they
 -- tell is equal but for sums and edge counts.
+use Rattle.std.specs.Prelude.{Ok}
 use Prim.Native.Nat.{ℕ, suc, ◌*◌, ◌-◌, ◌/◌, ◌%◌}
 use mathlib.Core.Path.{◌≡◌, refl, sym, ap, ◌∙◌, subst}
 use mathlib.Core.Bool.{Bool, true, false}
@@ -27,7 +28,6 @@ use Rattle.lta_spec.specs.Demand.Listed.{on_run, on_other}
 use Rattle.lta_spec.specs.Exchange.{exchanged, exchanged_call, exchanged_listed, may_carry, frame_carries, ToldAlike}
 use Rattle.lta_spec.specs.declared.Shape.{Shape}
 use Rattle.lta_spec.specs.declared.Refusal.{Refusal}
-use Rattle.lta_spec.specs.declared.Verdict.TheVariants.{Accepted}
 use Rattle.lta_spec.proofs.WordLaws.{length-splice}
 use Rattle.lta_spec.proofs.TestLaws.{pass}
 use Rattle.lta_spec.proofs.ShapeLaws.{Shaped}
@@ -187,7 +187,7 @@ module _ (sh : Shape) (is : Shaped sh) where
             bytes = page-bytes sh is.even is.cells m e e' s s' out;
           }
 
-      accepted-alike : (call : Call) → first_of (R.call_tests sh m call) ≡ Accepted
+      accepted-alike : (call : Call) → first_of (R.call_tests sh m call) ≡ Ok tt
           → StepsAlike sh (on_run call) (R.accepted sh call m) (R.accepted sh (exchanged_call call) m')
       unfolding R.accepted
       accepted-alike (tick samples) v =

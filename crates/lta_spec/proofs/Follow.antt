@@ -1,4 +1,5 @@
 -- A list of calls: the engine on work memory and the machine, from a fresh run, call by call.
+use Rattle.std.specs.Prelude.{Ok, Err}
 use Prim.Native.Nat.{ℕ, zero, suc, ◌*◌, ◌≤◌}
 use mathlib.Core.Path.{◌≡◌, refl, sym, ap, ◌∙◌, subst}
 use mathlib.Core.Bool.{cond}
@@ -6,7 +7,7 @@ use mathlib.Core.List.{List, [], ◌∷◌, map, append-nil}
 use native.Mathlib.Omega.{arith}
 use lib.ListN.{length, get_or, replicate, length-map, length-replicate}
 use lib.Seq.{take_all}
-use Rattle.lta_spec.specs.Refusals.{first_of, decided}
+use Rattle.lta_spec.specs.Refusals.{first_of, decided, Verdict}
 use Rattle.lta_spec.specs.Size.{depth, memory_words, host_tests}
 use Rattle.lta_spec.specs.Words.{zeros, over_all}
 use Rattle.lta_spec.specs.Tick.{Sample}
@@ -24,8 +25,6 @@ use Rattle.lta_spec.specs.Demand.{Listed, AllStand, Refuses, machine_returns, ma
 use Rattle.lta_spec.specs.Demand.Listed.{on_run, on_other}
 use Rattle.lta_spec.specs.declared.Shape.{Shape}
 use Rattle.lta_spec.specs.declared.Refusal.{Refusal}
-use Rattle.lta_spec.specs.declared.Verdict.{Verdict}
-use Rattle.lta_spec.specs.declared.Verdict.TheVariants.{Accepted, Refused}
 use Rattle.lta_spec.proofs.TestLaws.{first-append, pass-both}
 use Rattle.lta_spec.proofs.ShapeLaws.{Shaped}
 use Rattle.lta_spec.proofs.LayoutLaws.{All, Each}
@@ -105,7 +104,7 @@ module _ (sh : Shape) (wide : 2 ≤ sh.lags) (e : W.Run) (m : R.Run) (s : SameRu
       subst (λ r. first_of (S.call_tests sh call r) ≡ first_of (R.call_tests sh m call)) (sym (engine-is sh e m s))
       (verdict-same sh e.units m (beside sh e m s) call)
 
-  done-same : first_of (R.call_tests sh m call) ≡ Accepted → SameDone sh (S.accepted sh call e) (R.accepted sh call m)
+  done-same : first_of (R.call_tests sh m call) ≡ Ok tt → SameDone sh (S.accepted sh call e) (R.accepted sh call m)
   done-same v =
       subst (λ r. SameDone sh (S.accepted sh call r) (R.accepted sh call m)) (sym (engine-is sh e m s))
       (accepted-same sh e.units m (beside sh e m s) wide call v)
@@ -116,10 +115,10 @@ module _ (sh : Shape) (wide : 2 ≤ sh.lags) (e : W.Run) (m : R.Run) (s : SameRu
   verdicts =
       rw (sized sh e m s, loaded sh e m s)
       (first-append (host_tests sh (memory_words sh)) (S.call_tests sh call e)
-      ∙ ap (decided (first_of (host_tests sh (memory_words sh))) Refused) tests_same
+      ∙ ap (decided (first_of (host_tests sh (memory_words sh))) Err) tests_same
       ∙ sym (first-append (host_tests sh (memory_words sh)) (R.call_tests sh m call)))
 
-  pub accepts : R.verdict sh m (memory_words sh) call ≡ Accepted → first_of (R.call_tests sh m call) ≡ Accepted
+  pub accepts : R.verdict sh m (memory_words sh) call ≡ Ok tt → first_of (R.call_tests sh m call) ≡ Ok tt
   unfolding R.verdict
   accepts v =
       (pass-both (first_of (host_tests sh (memory_words sh))) (first_of (R.call_tests sh m call))
@@ -134,8 +133,8 @@ module _ (sh : Shape) (wide : 2 ≤ sh.lags) (e : W.Run) (m : R.Run) (s : SameRu
       (decided v (λ r. record { answer = refusal r; out = lent_to call; run = m }) (R.accepted sh call m))
 
   by-verdict : (v : Verdict) → R.verdict sh m (memory_words sh) call ≡ v → Outcome v
-  by-verdict (Refused r) v = record { answer = refl; out = refl; run = e; mem = refl; same = s }
-  by-verdict Accepted v =
+  by-verdict (Err r) v = record { answer = refl; out = refl; run = e; mem = refl; same = s }
+  by-verdict (Ok _) v =
       let d = done-same (accepts v) in
       rw (loaded sh e m s)
       (record { answer = d.answer; out = d.out; run = (S.accepted sh call e).run; mem = refl; same = d.run })
@@ -158,8 +157,8 @@ module _ (shape : Shape) (call : Call) (given : List ℕ) (m : R.Run)
       by-verdict (first_of (host_tests shape (length given))) refl refuses
     where
       by-verdict : (v : Verdict) → first_of (host_tests shape (length given)) ≡ v → Refuses v → Turned
-      by-verdict Accepted e r = absurd r
-      by-verdict (Refused r) e w =
+      by-verdict (Ok _) e r = absurd r
+      by-verdict (Err r) e w =
           record {
             why = r;
             engine = rw (

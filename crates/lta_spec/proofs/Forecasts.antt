@@ -1,4 +1,5 @@
 -- What a forecast means: a fact of the plain machine, which the engine follows as in demand 3.
+use Rattle.std.specs.Prelude.{Ok, Err}
 use Prim.Native.Nat.{ℕ, zero, suc, ◌+◌, ◌-◌, ◌≤◌, ◌<◌}
 use mathlib.Core.Path.{◌≡◌, refl, sym, ap, ap₂, ◌∙◌, subst}
 use mathlib.Core.Bool.{Bool, true, false, cond}
@@ -10,7 +11,7 @@ use lib.ListN.{length, get_or, take, drop, length-append, drop_of_length-le, get
 use lib.Seq.{append_snoc, take_all}
 use borrow.Author.Tests.{ltb-true, ltb-false, eq-eqb, ne_eqb}
 use Rattle.lta_spec.specs.Words.{over_all, numbers_from}
-use Rattle.lta_spec.specs.Refusals.{decided}
+use Rattle.lta_spec.specs.Refusals.{decided, Verdict}
 use Rattle.lta_spec.specs.Shape.{shape_ok, run_limit, open_limit}
 use Rattle.lta_spec.specs.Size.{memory_words}
 use Rattle.lta_spec.specs.Call.{lent_to}
@@ -28,8 +29,6 @@ use Rattle.lta_spec.specs.Demand.Listed.{on_run, on_other}
 use Rattle.lta_spec.specs.Forecasts.{in_turn, tick_told, dump_told, well_formed, open_set, holdoff_set}
 use Rattle.lta_spec.specs.Forecasts.{cells_held_off, ForecastMeans}
 use Rattle.lta_spec.specs.declared.Shape.{Shape}
-use Rattle.lta_spec.specs.declared.Verdict.{Verdict}
-use Rattle.lta_spec.specs.declared.Verdict.TheVariants.{Accepted, Refused}
 use Rattle.lta_spec.proofs.TestLaws.{pass}
 use Rattle.lta_spec.proofs.ShapeLaws.{shaped}
 use Rattle.lta_spec.proofs.WordLaws.{over-append, over-map}
@@ -254,11 +253,11 @@ answered sh wide e m s c n = by-verdict (R.verdict sh m (memory_words sh) (forec
         → (decided {A = R.Step} v (λ why. record { answer = refusal why; out = []; run = m })
         (R.accepted sh (forecast c) m)).answer ≡ number n
         → (c < sh.cells) × (n ≡ open_limit - length (open_set (R.unit_at sh c m)))
-    by-verdict Accepted v q =
+    by-verdict (Ok _) v q =
         let x = pass (ltb c sh.cells) _ _ (accepts sh wide e m s (forecast c) v) in
         let same : n ≡ open_limit - length (open_set (R.unit_at sh c m)) = cc in
         (ltb-true c sh.cells x.0, same)
-    by-verdict (Refused why) v q = let z : ◌≡◌ {A = ℕ} 0 1 = cc in absurd (omega arith)
+    by-verdict (Err why) v q = let z : ◌≡◌ {A = ℕ} 0 1 = cc in absurd (omega arith)
 
 pub forecast-means : ForecastMeans
 forecast-means sh ok before behind stand stand' c n f none =

@@ -1,5 +1,6 @@
 -- Emitted frames: the bytes that the calls left in their buffers are, at the end, those of the machine's sets of
 -- frames.
+use Rattle.std.specs.Prelude.{Ok, Err}
 use Prim.Native.Nat.{ℕ, zero, suc, ◌*◌, ◌/◌, ◌%◌, ◌≤◌, ◌<◌}
 use mathlib.Core.Path.{◌≡◌, refl, sym, ap, ap₂, ◌∙◌, subst}
 use mathlib.Core.Bool.{Bool, true, false, not, ◌&&◌, ◌||◌}
@@ -10,7 +11,7 @@ use lib.Dec.{ltb, leb, eqb}
 use lib.ListN.{length, get_or, set, take, drop, length-map, length-set}
 use lib.Seq.{append_snoc, get_or-set_same, get_or-set_other}
 use borrow.Author.Tests.{leb-true, ltb-true, lt-ltb, eqb-true, eqb-false}
-use Rattle.lta_spec.specs.Refusals.{first_of, decided}
+use Rattle.lta_spec.specs.Refusals.{first_of, decided, Verdict}
 use Rattle.lta_spec.specs.Size.{memory_words}
 use Rattle.lta_spec.specs.Words.{splice}
 use Rattle.lta_spec.specs.Tick.{Sample}
@@ -34,8 +35,6 @@ use Rattle.lta_spec.specs.Demand.{frames_returned}
 use Rattle.lta_spec.specs.Demand.Listed.{on_run, on_other}
 use Rattle.lta_spec.specs.declared.Shape.{Shape}
 use Rattle.lta_spec.specs.declared.Fields.{Fields}
-use Rattle.lta_spec.specs.declared.Verdict.{Verdict}
-use Rattle.lta_spec.specs.declared.Verdict.TheVariants.{Accepted, Refused}
 use Rattle.lta_spec.proofs.WordLaws.{splice-eq, take-splice}
 use Rattle.lta_spec.proofs.TestLaws.{pass}
 use Rattle.lta_spec.proofs.ShapeLaws.{Shaped}
@@ -227,7 +226,7 @@ module _ (sh : Shape) (is : Shaped sh) (e : W.Run) (m : R.Run) (s : SameRun sh e
           (omega (arith, is.cells))
 
   -- every call
-  accepted-framed : (call : Call) → first_of (R.call_tests sh m call) ≡ Accepted
+  accepted-framed : (call : Call) → first_of (R.call_tests sh m call) ≡ Ok tt
       → Framed sh c (returned_by call (R.accepted sh call m) ++ fs) (R.unit_at sh c (R.accepted sh call m).run)
   unfolding R.accepted R.picks R.picked_from R.with_cell dump_fits
   accepted-framed (tick samples) v = tick-at m.t samples m.units c (R.fresh_unit sh) there sh fs p
@@ -288,8 +287,8 @@ module _ (sh : Shape) (is : Shaped sh) (e : W.Run) (m : R.Run) (s : SameRun sh e
 
       by-verdict : (v : Verdict) → R.verdict sh m (memory_words sh) call ≡ v
           → Framed sh c (returned_by call (after v) ++ fs) (R.unit_at sh c (after v).run)
-      by-verdict Accepted v = accepted-framed call (accepts sh is.some-lags e m s call v)
-      by-verdict (Refused why) v = rw (refused-returned call _) p
+      by-verdict (Ok _) v = accepted-framed call (accepts sh is.some-lags e m s call v)
+      by-verdict (Err why) v = rw (refused-returned call _) p
 
 -- a list of calls
 pub list-framed : (sh : Shape) → Shaped sh → (cs : List Listed) → AllStand cs → (e : W.Run) (m : R.Run)

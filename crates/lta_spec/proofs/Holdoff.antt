@@ -1,4 +1,5 @@
 -- One call of the plain machine: what it makes of a cell's Open, and of loss 6 of every cell.
+use Rattle.std.specs.Prelude.{Ok, Err}
 use Prim.Native.Nat.{ℕ, zero, suc, ◌+◌, ◌/◌, ◌%◌, ◌≤◌, ◌<◌}
 use mathlib.Core.Path.{◌≡◌, refl, sym, ap, ap₂, ◌∙◌}
 use mathlib.Core.Bool.{Bool, true, false, cond, not, ◌&&◌}
@@ -10,7 +11,7 @@ use lib.ListN.{length, get_or, set, drop}
 use lib.Seq.{get_or-set_same, get_or-set_other, map-set_same}
 use borrow.Author.Tests.{eq-eqb, eqb-true, ne_eqb}
 use Rattle.lta_spec.specs.Words.{over_all}
-use Rattle.lta_spec.specs.Refusals.{first_of, decided}
+use Rattle.lta_spec.specs.Refusals.{first_of, decided, Verdict}
 use Rattle.lta_spec.specs.Shape.{shape_ok, run_limit}
 use Rattle.lta_spec.specs.Size.{memory_words, host_tests}
 use Rattle.lta_spec.specs.Place.{Label, Bin, Cell, ordered, overrun, full, replaced, too_wide, holdoff, loss_count}
@@ -28,8 +29,6 @@ use Rattle.lta_spec.specs.Forecasts.{tick_told, dump_told, well_formed, open_set
 use Rattle.lta_spec.specs.declared.Shape.{Shape}
 use Rattle.lta_spec.specs.declared.Refusal.{Refusal}
 use Rattle.lta_spec.specs.declared.Refusal.TheVariants.{WrongSamples, BadValidity, RunFull}
-use Rattle.lta_spec.specs.declared.Verdict.{Verdict}
-use Rattle.lta_spec.specs.declared.Verdict.TheVariants.{Accepted, Refused}
 use Rattle.lta_spec.proofs.TestLaws.{pass}
 use Rattle.lta_spec.proofs.WordLaws.{over-append, over-at}
 use Rattle.lta_spec.proofs.Conserve.{over-places}
@@ -213,7 +212,7 @@ module _ (sh : Shape) (c : ℕ) where
 
   module _ (ok : shape_ok sh ≡ true) (m : R.Run) where
     -- a well-formed tick that is refused
-    run-full : (samples : List ℕ) (why : Refusal) → R.verdict sh m (memory_words sh) (tick samples) ≡ Refused why
+    run-full : (samples : List ℕ) (why : Refusal) → R.verdict sh m (memory_words sh) (tick samples) ≡ Err why
         → 0 < well_formed sh (on_run (tick samples)) → run_limit ≤ m.t
     unfolding R.verdict host_tests
     run-full samples why v h =
@@ -221,15 +220,15 @@ module _ (sh : Shape) (c : ℕ) where
         (rw (ok, eq-eqb (memory_words sh) (memory_words sh) refl) at v) h
       where
         by_tests : (a d b : Bool) → eqb m.t run_limit ≡ b
-            → cond a (cond d (cond (not b) Accepted (Refused RunFull)) (Refused BadValidity)) (Refused WrongSamples)
-            ≡ Refused why
+            → cond a (cond d (cond {A = Verdict} (not b) (Ok tt) (Err RunFull)) (Err BadValidity)) (Err WrongSamples)
+            ≡ Err why
             → 0 < cond (a && d) 1 0 → run_limit ≤ m.t
         by_tests true true true e v h = omega (arith, eqb-true m.t run_limit e)
         by_tests true true false e v h = let z : ◌≡◌ {A = ℕ} 0 1 = cc in absurd (omega arith)
         by_tests true false b e v h = absurd (not-suc-le-zero h)
         by_tests false d b e v h = absurd (not-suc-le-zero h)
 
-    refused-keeps : (call : Call) (why : Refusal) → R.verdict sh m (memory_words sh) call ≡ Refused why
+    refused-keeps : (call : Call) (why : Refusal) → R.verdict sh m (memory_words sh) call ≡ Err why
         → Kept (on_run call) m (record { answer = refusal why; out = lent_to call; run = m })
     refused-keeps (tick samples) why v =
         record { none = refl; time = refl; opened = refl; losses = refl; ended = run-full samples why v }
@@ -280,7 +279,7 @@ module _ (sh : Shape) (c : ℕ) where
       unfolding R.picked_from
       picked-losses = map-set_same holdoff_set r.units d _ (R.fresh_unit sh) refl
 
-    accepted-does : (call : Call) → first_of (R.call_tests sh m call) ≡ Accepted
+    accepted-does : (call : Call) → first_of (R.call_tests sh m call) ≡ Ok tt
         → dump_told c (on_run call) (told (R.accepted sh call m)) ≡ [] → Outcome (on_run call) m (R.accepted sh call m)
     unfolding
         R.accepted R.emits R.picks R.picked_from R.sends R.with_dump R.with_frame R.with_cell M.integrate_cell M.integrate_at
@@ -325,5 +324,5 @@ module _ (sh : Shape) (c : ℕ) where
 
         by-verdict : (v : Verdict) → R.verdict sh m (memory_words sh) call ≡ v
             → dump_told c (on_run call) (told (after v)) ≡ [] → Outcome (on_run call) m (after v)
-        by-verdict Accepted v none = accepted-does call (accepts sh wide e m s call v) none
-        by-verdict (Refused why) v none = keeps (refused-keeps call why v)
+        by-verdict (Ok _) v none = accepted-does call (accepts sh wide e m s call v) none
+        by-verdict (Err why) v none = keeps (refused-keeps call why v)

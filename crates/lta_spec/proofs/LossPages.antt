@@ -1,4 +1,5 @@
 -- What a loss page shows: the lines and the totals, read back; and behind every list of demand 3.
+use Rattle.std.specs.Prelude.{Ok}
 use Prim.Native.Nat.{ℕ, zero, suc, ◌+◌, ◌*◌, ◌-◌, ◌≤◌, ◌<◌}
 use mathlib.Core.Path.{◌≡◌, refl, sym, ap, ap₂, ◌∙◌, subst}
 use mathlib.Core.Bool.{true, ◌&&◌}
@@ -33,7 +34,6 @@ use Rattle.lta_spec.specs.LossPages.{over_ledger, LossPages}
 use Rattle.lta_spec.specs.LossPages.Number.{ticks, edge, centre}
 use Rattle.lta_spec.specs.declared.Shape.{Shape}
 use Rattle.lta_spec.specs.declared.Counts.{Counts}
-use Rattle.lta_spec.specs.declared.Verdict.TheVariants.{Accepted}
 use Rattle.lta_spec.proofs.DecimalLaws.{read_right}
 use Rattle.lta_spec.proofs.WordLaws.{over-append, over-map, over-next, take-splice}
 use Rattle.lta_spec.proofs.TestLaws.{and_both, pass}
@@ -220,7 +220,7 @@ record Passed (sh : Shape) (mem out : List ℕ) : Type 0 where
   sound : D.ledgers_sound ((run_layout sh).get mem).units ≡ true
   room : page_length sh.cells ≤ length out
 
-passed : (sh : Shape) (mem out : List ℕ) → S.verdict sh mem (page out) ≡ Accepted → Passed sh mem out
+passed : (sh : Shape) (mem out : List ℕ) → S.verdict sh mem (page out) ≡ Ok tt → Passed sh mem out
 unfolding S.verdict host_tests
 passed sh mem out v =
     let r = (run_layout sh).get mem in
@@ -240,7 +240,7 @@ passed sh mem out v =
     }
 
 -- the page of an accepted call, and what it shows
-module _ (sh : Shape) (mem out : List ℕ) (v : S.verdict sh mem (page out) ≡ Accepted) where
+module _ (sh : Shape) (mem out : List ℕ) (v : S.verdict sh mem (page out) ≡ Ok tt) where
   abbrev run : W.Run
   run = (run_layout sh).get mem
 
@@ -315,11 +315,11 @@ module _ (sh : Shape) (ok : shape_ok sh ≡ true) (cs : List Listed) (stand : Al
   followed : Followed sh cs (W.start sh) (R.start sh)
   followed = from_start sh (shaped sh ok) cs stand
 
-  machine-accepts : R.verdict sh m (memory_words sh) (page out) ≡ Accepted
+  machine-accepts : R.verdict sh m (memory_words sh) (page out) ≡ Ok tt
   unfolding R.verdict host_tests page_length
   machine-accepts = rw (ok, eq-eqb (memory_words sh) (memory_words sh) refl, le-leb _ (length out) room)
 
-  accepts : S.verdict sh (mem_after sh cs) (page out) ≡ Accepted
+  accepts : S.verdict sh (mem_after sh cs) (page out) ≡ Ok tt
   accepts =
       ap (λ z. S.verdict sh z (page out)) followed.mem
       ∙ verdicts sh (shaped sh ok).some-lags followed.run m followed.same (page out)

@@ -1,5 +1,6 @@
 -- What the tests of an accepted call on a run showed: of any call, of a dump, of an emission; and the parts of a dump's
 -- test of 11.
+use Rattle.std.specs.Prelude.{Ok}
 use Prim.Native.Nat.{ℕ, ◌+◌, ◌*◌, ◌≤◌, ◌<◌}
 use mathlib.Core.Path.{◌≡◌, refl, sym, ◌∙◌}
 use mathlib.Core.Bool.{Bool, true, false, not, ◌&&◌, ◌||◌}
@@ -20,7 +21,6 @@ use Rattle.lta_spec.specs.Damage as D
 use Rattle.lta_spec.specs.Memory.{Run, run_layout}
 use Rattle.lta_spec.specs.Step as S
 use Rattle.lta_spec.specs.declared.Shape.{Shape}
-use Rattle.lta_spec.specs.declared.Verdict.TheVariants.{Accepted}
 use Rattle.lta_spec.proofs.TestLaws.{and_both, and-le, pass, pass-both, first-append}
 use Rattle.lta_spec.proofs.LayoutLaws.{all-get}
 use Rattle.lta_spec.proofs.MemoryLaws.{UnitOk, run-law, run-width}
@@ -71,8 +71,8 @@ module _ (sh : Shape) (mem : List ℕ) where
   run = (run_layout sh).get mem
 
   -- 1 and 2, and the call's own
-  module _ (call : Call) (v : S.verdict sh mem call ≡ Accepted) where
-    pub tests : (first_of (host_tests sh (length mem)) ≡ Accepted) × (first_of (S.call_tests sh call run) ≡ Accepted)
+  module _ (call : Call) (v : S.verdict sh mem call ≡ Ok tt) where
+    pub tests : (first_of (host_tests sh (length mem)) ≡ Ok tt) × (first_of (S.call_tests sh call run) ≡ Ok tt)
     unfolding S.verdict
     tests = pass-both (first_of (host_tests sh (length mem))) _ (sym (first-append (host_tests sh (length mem)) _) ∙ v)
 
@@ -96,7 +96,7 @@ module _ (sh : Shape) (mem : List ℕ) where
     pub room : dump_fits sh.lags command bytes ≡ true
 
   pub dump-passed : (c command bank phase : ℕ) (out : List ℕ)
-      → S.verdict sh mem (dump c command bank phase out) ≡ Accepted → DumpPassed c command bank phase (length out)
+      → S.verdict sh mem (dump c command bank phase out) ≡ Ok tt → DumpPassed c command bank phase (length out)
   dump-passed c command bank phase out v =
       let u = S.unit_at sh c run in
       let x = pass (ltb c sh.cells) _ _ (tests (dump c command bank phase out) v).1 in
@@ -129,7 +129,7 @@ module _ (sh : Shape) (mem : List ℕ) where
     pub some : 1 ≤ (S.unit_at sh c run).picks.ready_bins
     pub room : frame_length accumulated sh.lags ≤ bytes
 
-  pub emit-passed : (c bank bin : ℕ) (out : List ℕ) → S.verdict sh mem (emit c bank bin out) ≡ Accepted
+  pub emit-passed : (c bank bin : ℕ) (out : List ℕ) → S.verdict sh mem (emit c bank bin out) ≡ Ok tt
       → EmitPassed c bank bin (length out)
   unfolding D.emit_unit_sound
   emit-passed c bank bin out v =

@@ -1,4 +1,5 @@
 -- What the tests of an accepted pick showed: there is a Ready bin where its searches end, and its emission may go on.
+use Rattle.std.specs.Prelude.{Ok}
 use Prim.Native.Nat.{ℕ, ◌*◌, ◌≤◌, ◌<◌}
 use mathlib.Core.Path.{◌≡◌, ap, ◌∙◌}
 use mathlib.Core.Bool.{Bool, true, ◌&&◌}
@@ -17,7 +18,6 @@ use Rattle.lta_spec.specs.Damage as D
 use Rattle.lta_spec.specs.Memory.{Run, run_layout}
 use Rattle.lta_spec.specs.Step as S
 use Rattle.lta_spec.specs.declared.Shape.{Shape}
-use Rattle.lta_spec.specs.declared.Verdict.TheVariants.{Accepted}
 use Rattle.lta_spec.proofs.TestLaws.{and_both, and-le, every-at, some_at, pass}
 use Rattle.lta_spec.proofs.MemoryLaws.{UnitOk, run-law, run-width}
 use Rattle.lta_spec.proofs.PickLaws.{seek-holds, seek-below, engine-bank, engine-bin, engine-index}
@@ -66,7 +66,7 @@ module _ (sh : Shape) (mem : List ℕ) where
     pub below : bin < 2 * sh.bins
     pub emits : EmitPassed sh mem cell (E.bank_of sh.bins bin) (E.data_bin_of sh.bins bin) bytes
 
-  pub pick-passed : (out : List ℕ) → S.verdict sh mem (pick out) ≡ Accepted → PickPassed (length out)
+  pub pick-passed : (out : List ℕ) → S.verdict sh mem (pick out) ≡ Ok tt → PickPassed (length out)
   unfolding S.picked_cell
   pick-passed out v =
       let n = sh.lags in

@@ -1,4 +1,5 @@
 -- One call of the plain machine: it emits a Ready bin, or leaves it, and a successful pick then brings the bin nearer.
+use Rattle.std.specs.Prelude.{Ok, Err}
 use Prim.Native.Nat.{ℕ, zero, suc, ◌+◌, ◌*◌, ◌/◌, ◌%◌, ◌≤◌, ◌<◌}
 use mathlib.Core.Path.{◌≡◌, refl, sym, ap, ap₂, ◌∙◌, subst}
 use mathlib.Core.Bool.{Bool, true, false, ◌&&◌}
@@ -10,7 +11,7 @@ use lib.Dec.{ltb, eqb}
 use lib.ListN.{length, get_or, set, drop}
 use lib.Seq.{get_or-set_same, get_or-set_other, lt-length-set}
 use borrow.Author.Tests.{ltb-true, eqb-true, eqb-false, eq-eqb, le-leb}
-use Rattle.lta_spec.specs.Refusals.{first_of, decided}
+use Rattle.lta_spec.specs.Refusals.{first_of, decided, Verdict}
 use Rattle.lta_spec.specs.Size.{memory_words}
 use Rattle.lta_spec.specs.Place.{Label, Bin, Cell, ready}
 use Rattle.lta_spec.specs.Call.{Call, lent_to, bank_ok, speed, bin_index}
@@ -26,8 +27,6 @@ use Rattle.lta_spec.specs.Demand.Listed.{on_run, on_other}
 use Rattle.lta_spec.specs.Fairness.{pick_told, places_ahead, picks_ahead}
 use Rattle.lta_spec.specs.declared.Shape.{Shape}
 use Rattle.lta_spec.specs.declared.Refusal.{Refusal}
-use Rattle.lta_spec.specs.declared.Verdict.{Verdict}
-use Rattle.lta_spec.specs.declared.Verdict.TheVariants.{Accepted, Refused}
 use Rattle.lta_spec.proofs.TestLaws.{and_both, pass}
 use Rattle.lta_spec.proofs.ShapeLaws.{index_below}
 use Rattle.lta_spec.proofs.ReadyLaws.{tick-bins, dump-bins, some-ready}
@@ -266,7 +265,7 @@ module _ (sh : Shape) (c bank bin : ℕ) where
               subst (λ d. Outcome (on_run (pick out)) m (taken d j out)) (sym same) (pick-this j out (bins same))
           by-test false x = let other = eqb-false d c x in pick_other d j out other (cells other)
 
-      accepted-does : (call : Call) → first_of (R.call_tests sh m call) ≡ Accepted
+      accepted-does : (call : Call) → first_of (R.call_tests sh m call) ≡ Ok tt
           → Outcome (on_run call) m (R.accepted sh call m)
       unfolding R.accepted R.picks
       accepted-does (tick samples) v =
@@ -290,8 +289,8 @@ module _ (sh : Shape) (c bank bin : ℕ) where
           by-verdict : (v : Verdict) → R.verdict sh m (memory_words sh) call ≡ v
               → Outcome (on_run call) m
               (decided v (λ why. record { answer = refusal why; out = lent_to call; run = m }) (R.accepted sh call m))
-          by-verdict Accepted v = accepted-does call (accepts sh wide e m s call v)
-          by-verdict (Refused why) v = no-pick _ m _ (none_told call why (lent_to call)) refl refl
+          by-verdict (Ok _) v = accepted-does call (accepts sh wide e m s call v)
+          by-verdict (Err why) v = no-pick _ m _ (none_told call why (lent_to call)) refl refl
       step-does (on_other shape call given) stands =
           subst (Outcome (on_other shape call given) m) (sym (turned shape call given m stands).machine)
           (no-pick _ m _ refl refl refl)

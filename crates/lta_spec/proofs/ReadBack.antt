@@ -1,4 +1,5 @@
 -- The frames of the machine's sets, read back: the reader accepts each, and gives the set's numbers.
+use Rattle.std.specs.Prelude.{Ok, Err}
 use Prim.Native.Nat.{ℕ, zero, suc, ◌+◌, ◌*◌, ◌≤◌, ◌<◌}
 use mathlib.Core.Path.{◌≡◌, refl, sym, ap, ap₂, ◌∙◌}
 use mathlib.Core.Bool.{true}
@@ -6,7 +7,7 @@ use mathlib.Core.List.{List, [], ◌∷◌, map}
 use native.Mathlib.Omega.{arith}
 use lib.IntN.{pos}
 use lib.ListN.{get_or}
-use Rattle.lta_spec.specs.Refusals.{decided}
+use Rattle.lta_spec.specs.Refusals.{decided, Verdict}
 use Rattle.lta_spec.specs.Shape.{shape_ok, run_limit, bin_limit}
 use Rattle.lta_spec.specs.Tick.{Sample}
 use Rattle.lta_spec.specs.Place.{Stamped}
@@ -22,8 +23,6 @@ use Rattle.lta_spec.specs.RoundTrip.{lags_read}
 use Rattle.lta_spec.specs.Demand.{sent_fields, ReadBack, AllRead, read_sums}
 use Rattle.lta_spec.specs.declared.Shape.{Shape}
 use Rattle.lta_spec.specs.declared.Fields.{Fields}
-use Rattle.lta_spec.specs.declared.Verdict.{Verdict}
-use Rattle.lta_spec.specs.declared.Verdict.TheVariants.{Accepted, Refused}
 use Rattle.lta_spec.proofs.RowLaws.{length-numbers, numbers-size, row-ok}
 use Rattle.lta_spec.proofs.SetLaws.{stored-edge, stored-centre, lags-read}
 use Rattle.lta_spec.proofs.LayoutLaws.{All}
@@ -54,8 +53,8 @@ fields_in f no_data = f
 
 fields_read : (v : Verdict) (f g : Fields) → decided v refusal (fields f) ≡ fields g → f ≡ g
 unfolding fields_in
-fields_read Accepted f g e = ap (fields_in f) e
-fields_read (Refused r) f g e = let z : ◌≡◌ {A = ℕ} 0 1 = cc in absurd (omega arith)
+fields_read (Ok _) f g e = ap (fields_in f) e
+fields_read (Err r) f g e = let z : ◌≡◌ {A = ℕ} 0 1 = cc in absurd (omega arith)
 
 module _ (sh : Shape) (ok : shape_ok sh ≡ true) (c : ℕ) (hc : c < sh.cells) (t : ℕ) (limit : t ≤ run_limit)
     (xs ys : List Sample) where

@@ -1,4 +1,5 @@
 -- The second round trip, for both kinds and every N: an accepted frame rewritten from what was read gives its bytes.
+use Rattle.std.specs.Prelude.{Ok}
 use mathlib.Core.Path.{◌≡◌, refl, sym, ap, ◌∙◌}
 use mathlib.Core.Bool.{Bool, true, false, cond}
 use mathlib.Core.List.{List, [], ◌∷◌}
@@ -13,7 +14,6 @@ use Rattle.lta_spec.specs.Bytes.{word_range, signed}
 use Rattle.lta_spec.specs.Frame.{speed_frame, head_words, frame_length, frame_of, body_of, lag_words, lag_numbers}
 use Rattle.lta_spec.specs.Frame.{w0, w1, header, fields_of, fixed_ok, bias_ok}
 use Rattle.lta_spec.specs.FrameCalls.{summed, read_verdict, write_verdict, write_leaves}
-use Rattle.lta_spec.specs.declared.Verdict.TheVariants as verdict
 use Rattle.lta_spec.proofs.WordLaws.{length_part}
 use Rattle.lta_spec.proofs.TestLaws.{and_both}
 use Rattle.lta_spec.proofs.ByteLaws.{Below, below-drop, below-part, words-below, length-words, lags-signed}
@@ -48,7 +48,7 @@ header-fields (a ∷ b ∷ t ∷ c ∷ d ∷ s ∷ o ∷ l) h m e z =
         ap (λ v. a ∷ b ∷ t ∷ c ∷ d ∷ s ∷ o ∷ v ∷ []) (sym (eqb-true w (peak * t) z))
 
 -- what is read is written as the bytes that were read
-module _ (n : ℕ) (s : List ℕ) (bytes : Below 256 s) (ok : read_verdict n s ≡ verdict.Accepted) where
+module _ (n : ℕ) (s : List ℕ) (bytes : Below 256 s) (ok : read_verdict n s ≡ Ok tt) where
   -- its kind and header words
   abbrev kind : ℕ
   kind = (fields_of (body_of s)).kind
@@ -81,7 +81,7 @@ module _ (n : ℕ) (s : List ℕ) (bytes : Below 256 s) (ok : read_verdict n s �
       (frame-again s h (2 * n) bytes (omega (arith, size)) a.mark sum)
 
   pub accepts-read : (room : ℕ) → length s ≤ room
-      → write_verdict n (fields_of (body_of s)) (lag_numbers kind n (body_of s)) room ≡ verdict.Accepted
+      → write_verdict n (fields_of (body_of s)) (lag_numbers kind n (body_of s)) room ≡ Ok tt
   accepts-read room least =
       let a = accepted n s ok in
       written n _ _ room

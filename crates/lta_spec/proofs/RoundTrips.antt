@@ -1,5 +1,6 @@
 -- What tests that passed give, and the first round trip for both kinds and every N: a frame written and read back gives
 -- its fields and its lags.
+use Rattle.std.specs.Prelude.{Ok, Err}
 use mathlib.Core.Path.{◌≡◌, refl, sym, ap, ◌∙◌, subst}
 use mathlib.Core.Bool.{Bool, true, false, cond, ◌&&◌, ◌||◌}
 use mathlib.Core.List.{List, [], ◌∷◌, ◌++◌, map}
@@ -13,7 +14,7 @@ use mir.Syntax.{w32}
 use mir.Val.{SFits}
 use borrow.Author.Tests.{leb-true, ltb-true, eqb-true, eq-eqb, ne_eqb, le-leb}
 use Rattle.lta_spec.specs.Words.{part}
-use Rattle.lta_spec.specs.Refusals.{test, first_of, decided}
+use Rattle.lta_spec.specs.Refusals.{test, first_of, decided, Verdict}
 use Rattle.lta_spec.specs.Shape.{lag_count_ok, bin_limit, peak}
 use Rattle.lta_spec.specs.Bytes.{word_range, number_word, signed}
 use Rattle.lta_spec.specs.Frame.{
@@ -45,8 +46,6 @@ use Rattle.lta_spec.specs.FrameCalls.{lag_span, write_verdict, write_leaves, nor
 use Rattle.lta_spec.specs.declared.Fields.{Fields}
 use Rattle.lta_spec.specs.declared.Refusal.TheVariants.{NoLag, WrongBias}
 use Rattle.lta_spec.specs.declared.Span.{Span}
-use Rattle.lta_spec.specs.declared.Verdict.{Verdict}
-use Rattle.lta_spec.specs.declared.Verdict.TheVariants as verdict
 use Rattle.lta_spec.specs.Answer.Answer.{fields}
 use Rattle.lta_spec.specs.RoundTrip.{lags_read}
 use Rattle.lta_spec.proofs.WordLaws.{part-splice-same}
@@ -168,7 +167,7 @@ pub record Accepted (n : ℕ) (s : List ℕ) : Type 0 where
   pub lags : lags_ok (fields_of (body_of s)) (lag_numbers (kind_by n s) n (body_of s)) ≡ true
   pub bias : bias_ok (kind_by n s) (body_of s) ≡ true
 
-pub accepted : (n : ℕ) (s : List ℕ) → read_verdict n s ≡ verdict.Accepted → Accepted n s
+pub accepted : (n : ℕ) (s : List ℕ) → read_verdict n s ≡ Ok tt → Accepted n s
 unfolding read_verdict ruled
 accepted n s e =
     let c = pass (lag_count_ok n) _ _ e in
@@ -200,7 +199,7 @@ pub record Writes (n : ℕ) (f : Fields) (zs : List ℤ) (room : ℕ) : Type 0 w
   pub lags : lags_ok f zs ≡ true
   pub fits : frame_length f.kind n ≤ room
 
-pub writes : (n : ℕ) (f : Fields) (zs : List ℤ) (room : ℕ) → write_verdict n f zs room ≡ verdict.Accepted
+pub writes : (n : ℕ) (f : Fields) (zs : List ℤ) (room : ℕ) → write_verdict n f zs room ≡ Ok tt
     → Writes n f zs room
 unfolding write_verdict
 writes n f zs room e =
@@ -218,14 +217,14 @@ writes n f zs room e =
     }
 
 pub written : (n : ℕ) (f : Fields) (zs : List ℤ) (room : ℕ) → Writes n f zs room
-    → write_verdict n f zs room ≡ verdict.Accepted
+    → write_verdict n f zs room ≡ Ok tt
 unfolding write_verdict
 written n f zs room w =
     rw (w.count, w.fields, eq-eqb (length zs) (2 * n) w.length, w.lags, le-leb _ room w.fits)
 
 -- normalising follows the reader's verdict
 pub normal-follows : (n : ℕ) (s : List ℕ) (k : ℕ)
-    → normal_verdict n s k ≡ decided (read_verdict n s) verdict.Refused (first_of (test (ltb k n) NoLag ∷ []))
+    → normal_verdict n s k ≡ decided (read_verdict n s) Err (first_of (test (ltb k n) NoLag ∷ []))
 unfolding read_verdict normal_verdict
 normal-follows n s k = first-append (read_tests n s) (test (ltb k n) NoLag ∷ [])
 
@@ -233,13 +232,13 @@ pub record Normalises (n : ℕ) (s : List ℕ) (k : ℕ) : Type 0 where
   pub frame : Accepted n s
   pub lag : k < n
 
-pub normalises : (n : ℕ) (s : List ℕ) (k : ℕ) → normal_verdict n s k ≡ verdict.Accepted → Normalises n s k
+pub normalises : (n : ℕ) (s : List ℕ) (k : ℕ) → normal_verdict n s k ≡ Ok tt → Normalises n s k
 normalises n s k e =
     let p = pass-both (read_verdict n s) _ (sym (normal-follows n s k) ∙ e) in
     record { frame = accepted n s p.0; lag = ltb-true k n (pass (ltb k n) _ _ p.1).0 }
 
 -- the words of the lag part are the lags
-pub lag-part-read : (n : ℕ) (s : List ℕ) → read_verdict n s ≡ verdict.Accepted
+pub lag-part-read : (n : ℕ) (s : List ℕ) → read_verdict n s ≡ Ok tt
     → lags_read n s ≡ lag_numbers (kind_by n s) n (body_of s)
 unfolding part
 lag-part-read n s ok =
@@ -260,14 +259,14 @@ lag-inside n s = by-verdict (read_verdict n s) refl
     by-verdict : (v : Verdict) → read_verdict n s ≡ v
         → Inside
         (decided v (λ r. record { at = 0; length = 0 }) (record { at = lags_at (kind_by n s); length = 8 * n })) s
-    by-verdict verdict.Accepted e =
+    by-verdict (Ok _) e =
         let a = accepted n s e in
         record {
           inside = omega (arith, a.size);
           early = omega (arith, (heads-between (kind_by n s)).1);
           short = omega (arith, count_small n a.count);
         }
-    by-verdict (verdict.Refused r) e = record { inside = omega arith; early = omega arith; short = omega arith }
+    by-verdict (Err r) e = record { inside = omega arith; early = omega arith; short = omega arith }
 
 -- numbers within the limit of a lag are those of an i32
 fits-within : (f : Fields) (z : ℤ) → Valid f → within (peak * f.ticks) z ≡ true → SFits w32 z
@@ -349,7 +348,7 @@ right-header f = by-test (eqb f.kind speed_frame)
     by-test false = refl
 
 -- a frame of what the writer accepts, whatever its DATA_BIAS: the reader is left with 18
-module _ (n : ℕ) (f : Fields) (zs : List ℤ) (room : ℕ) (ok : write_verdict n f zs room ≡ verdict.Accepted) (bias : ℕ)
+module _ (n : ℕ) (f : Fields) (zs : List ℤ) (room : ℕ) (ok : write_verdict n f zs room ≡ Ok tt) (bias : ℕ)
     (small : bias < word_range) where
   fine : Writes n f zs room
   fine = writes n f zs room ok
@@ -388,7 +387,7 @@ module _ (n : ℕ) (f : Fields) (zs : List ℤ) (room : ℕ) (ok : write_verdict
       ∙ signed-lags zs (lags-fit f zs sound fine.lags)
 
   pub verdict-written : read_verdict n frame
-      ≡ cond (bias_right bias f) verdict.Accepted (verdict.Refused WrongBias)
+      ≡ cond (bias_right bias f) (Ok tt) (Err WrongBias)
   unfolding read_verdict ruled
   verdict-written =
       rw (
@@ -408,7 +407,7 @@ module _ (n : ℕ) (f : Fields) (zs : List ℤ) (room : ℕ) (ok : write_verdict
       )
 
 -- what is written is read as what was written
-module _ (n : ℕ) (f : Fields) (zs : List ℤ) (room : ℕ) (ok : write_verdict n f zs room ≡ verdict.Accepted) where
+module _ (n : ℕ) (f : Fields) (zs : List ℤ) (room : ℕ) (ok : write_verdict n f zs room ≡ Ok tt) where
   abbrev bias : ℕ
   bias = peak * f.ticks
 
@@ -419,7 +418,7 @@ module _ (n : ℕ) (f : Fields) (zs : List ℤ) (room : ℕ) (ok : write_verdict
   unfolding header
   length-written = frame-length n f zs room ok bias bias-small
 
-  pub accepts-written : read_verdict n (frame_of (header f) (lag_words zs)) ≡ verdict.Accepted
+  pub accepts-written : read_verdict n (frame_of (header f) (lag_words zs)) ≡ Ok tt
   unfolding header
   accepts-written = verdict-written n f zs room ok bias bias-small ∙ rw (right-header f)
 
@@ -436,7 +435,7 @@ module _ (n : ℕ) (f : Fields) (zs : List ℤ) (room : ℕ) (ok : write_verdict
 
 -- the same of the calls: the reader is given the first bytes of the buffer that the writer leaves
 module _
-    (n : ℕ) (f : Fields) (zs : List ℤ) (out : List ℕ) (ok : write_verdict n f zs (length out) ≡ verdict.Accepted)
+    (n : ℕ) (f : Fields) (zs : List ℤ) (out : List ℕ) (ok : write_verdict n f zs (length out) ≡ Ok tt)
   where
     pub leaves-frame : take (frame_length f.kind n) (write_leaves n f zs out) ≡ frame_of (header f) (lag_words zs)
     unfolding part

@@ -1,4 +1,5 @@
 -- What an accepted call does: the engine's answer, lent buffer and run are the machine's.
+use Rattle.std.specs.Prelude.{Ok}
 use Prim.Native.Nat.{ℕ, suc, ◌*◌, ◌-◌, ◌/◌, ◌%◌, ◌≤◌, ◌<◌}
 use mathlib.Core.Path.{◌≡◌, refl, ap, ap₂, ◌∙◌}
 use mathlib.Core.Bool.{Bool, true, false, not, ◌&&◌}
@@ -8,7 +9,7 @@ use native.Mathlib.Omega.{arith}
 use lib.Dec.{ltb, leb, eqb}
 use lib.ListN.{length, get_or, set, drop, length-set}
 use borrow.Author.Tests.{ltb-true, lt-ltb, eqb-true}
-use Rattle.lta_spec.specs.Words.{splice, joined, some}
+use Rattle.lta_spec.specs.Words.{splice, joined}
 use Rattle.lta_spec.specs.Refusals.{first_of}
 use Rattle.lta_spec.specs.Shape.{run_limit}
 use Rattle.lta_spec.specs.Tick.{Sample}
@@ -25,7 +26,6 @@ use Rattle.lta_spec.specs.Engine as E
 use Rattle.lta_spec.specs.Memory as W
 use Rattle.lta_spec.specs.Step as S
 use Rattle.lta_spec.specs.declared.Shape.{Shape}
-use Rattle.lta_spec.specs.declared.Verdict.TheVariants.{Accepted}
 use Rattle.lta_spec.proofs.TestLaws.{and_both, pass}
 use Rattle.lta_spec.proofs.TickLaws.{stored_entry, bit_is}
 use Rattle.lta_spec.proofs.RowLaws.{numbers-size}
@@ -252,7 +252,7 @@ module _ (sh : Shape) (es : List E.Unit) (m : R.Run) (q : SameRun sh (engine_of 
       rw (cell_same sh es m q h, bin_same sh es m q h, bank-is B k some below, bin-is B k some below)
       (record { answer = d.answer; out = d.out; run = points-same sh _ _ d.run c k inside below })
 
-  pub accepted-same : 2 ≤ sh.lags → (call : Call) → first_of (R.call_tests sh m call) ≡ Accepted
+  pub accepted-same : 2 ≤ sh.lags → (call : Call) → first_of (R.call_tests sh m call) ≡ Ok tt
       → SameDone sh (S.accepted sh call engine) (R.accepted sh call m)
   unfolding S.accepted R.accepted R.with_dump R.with_cell
   accepted-same wide (tick samples) v =

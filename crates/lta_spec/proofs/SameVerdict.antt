@@ -1,4 +1,5 @@
 -- The engine's verdict on a call is the machine's.
+use Rattle.std.specs.Prelude.{Err}
 use Prim.Native.Nat.{ℕ, ◌*◌, ◌≤◌, ◌<◌}
 use mathlib.Core.Path.{◌≡◌, refl, ap, ◌∙◌}
 use mathlib.Core.Bool.{Bool, true, false, cond, not, ◌&&◌}
@@ -7,7 +8,7 @@ use native.Mathlib.Omega.{arith}
 use lib.Dec.{ltb, leb, eqb}
 use borrow.Author.Tests.{ltb-true, lt-ltb, eq-eqb, eqb-false, le-leb, not-true}
 use Rattle.lta_spec.specs.Words.{every}
-use Rattle.lta_spec.specs.Refusals.{first_of}
+use Rattle.lta_spec.specs.Refusals.{first_of, Verdict}
 use Rattle.lta_spec.specs.Shape.{run_limit}
 use Rattle.lta_spec.specs.Place.{loss_count}
 use Rattle.lta_spec.specs.Call.{Call, samples_ok, validity_ok, command_ok, phase_ok, bank_ok, bin_index}
@@ -19,8 +20,6 @@ use Rattle.lta_spec.specs.Damage as D
 use Rattle.lta_spec.specs.Step as S
 use Rattle.lta_spec.specs.declared.Shape.{Shape}
 use Rattle.lta_spec.specs.declared.Refusal.{Refusal}
-use Rattle.lta_spec.specs.declared.Verdict.{Verdict}
-use Rattle.lta_spec.specs.declared.Verdict.TheVariants.{Refused}
 use Rattle.lta_spec.proofs.TestLaws.{and_both, both}
 use Rattle.lta_spec.proofs.ShapeLaws.{index_below}
 use Rattle.lta_spec.proofs.RowLaws.{window}
@@ -34,10 +33,10 @@ use Rattle.lta_spec.proofs.SameRun.{integrate-passes, emit-passes, read-passes, 
 use Rattle.lta_spec.proofs.SamePick.{some_same}
 
 -- one more test that passes, and tests that are the same, make no difference
-passing : (b : Bool) (r : Refusal) (v : Verdict) → b ≡ true → cond b v (Refused r) ≡ v
+passing : (b : Bool) (r : Refusal) (v : Verdict) → b ≡ true → cond b v (Err r) ≡ v
 passing b r v h = rw h
 
-same_test : (b : Bool) (r : Refusal) (v w : Verdict) → (b ≡ true → v ≡ w) → cond b v (Refused r) ≡ cond b w (Refused r)
+same_test : (b : Bool) (r : Refusal) (v w : Verdict) → (b ≡ true → v ≡ w) → cond b v (Err r) ≡ cond b w (Err r)
 same_test true r v w h = h refl
 same_test false r v w h = refl
 

@@ -1,4 +1,5 @@
 -- Laws of tests: conjunctions, and the first refusal of a list.
+use Rattle.std.specs.Prelude.{Ok, Err}
 use mathlib.Core.Path.{◌≡◌, refl, sym, ap, ◌∙◌}
 use mathlib.Core.Bool.{Bool, true, false, cond, ◌&&◌, ◌||◌, and_assoc, and-true}
 use mathlib.Core.List.{List, [], ◌∷◌, ◌++◌}
@@ -10,10 +11,8 @@ use lib.ListN.{length, get_or, take}
 use lib.Seq.{take-suc}
 use borrow.Author.Tests.{leb-true, ltb-false, le-leb}
 use Rattle.lta_spec.specs.Words.{every, some}
-use Rattle.lta_spec.specs.Refusals.{Test, first_of, decided}
+use Rattle.lta_spec.specs.Refusals.{Test, first_of, decided, Verdict}
 use Rattle.lta_spec.specs.declared.Refusal.{Refusal}
-use Rattle.lta_spec.specs.declared.Verdict.{Verdict}
-use Rattle.lta_spec.specs.declared.Verdict.TheVariants.{Accepted, Refused}
 
 pub and_both : (a b : Bool) → a && b ≡ true → (a ≡ true) × (b ≡ true)
 and_both true b e = (refl, e)
@@ -96,22 +95,22 @@ none-at f (x ∷ xs) e zero d h = (or-both (f x) (some f xs) e).0
 none-at f (x ∷ xs) e (suc i) d h = none-at f xs (or-both (f x) (some f xs) e).1 i d (le_of_suc-le-suc h)
 
 -- a call that is accepted has passed its first test, and the others
-pub pass : (b : Bool) (v : Verdict) (r : Refusal) → cond b v (Refused r) ≡ Accepted → (b ≡ true) × (v ≡ Accepted)
+pub pass : (b : Bool) (v : Verdict) (r : Refusal) → cond b v (Err r) ≡ Ok tt → (b ≡ true) × (v ≡ Ok tt)
 pass true v r e = (refl, e)
 pass false v r e = let z : ◌≡◌ {A = ℕ} 0 1 = cc in absurd (omega arith)
 
 -- more tests behind those of a list are tried where those pass
-pub first-append : (xs ys : List Test) → first_of (xs ++ ys) ≡ decided (first_of xs) Refused (first_of ys)
+pub first-append : (xs ys : List Test) → first_of (xs ++ ys) ≡ decided (first_of xs) Err (first_of ys)
 first-append [] ys = refl
 first-append (x ∷ xs) ys =
-    ap (λ (v : Verdict). cond x.passes v (Refused x.otherwise)) (first-append xs ys)
+    ap (λ (v : Verdict). cond x.passes v (Err x.otherwise)) (first-append xs ys)
     ∙ one x.passes (first_of xs) (first_of ys) x.otherwise
   where
     one : (b : Bool) (v w : Verdict) (r : Refusal)
-        → cond b (decided v Refused w) (Refused r) ≡ decided (cond b v (Refused r)) Refused w
+        → cond b (decided v Err w) (Err r) ≡ decided (cond b v (Err r)) Err w
     one true v w r = refl
     one false v w r = refl
 
-pub pass-both : (v w : Verdict) → decided v Refused w ≡ Accepted → (v ≡ Accepted) × (w ≡ Accepted)
-pass-both Accepted w e = (refl, e)
-pass-both (Refused r) w e = let z : ◌≡◌ {A = ℕ} 0 1 = cc in absurd (omega arith)
+pub pass-both : (v w : Verdict) → decided v Err w ≡ Ok tt → (v ≡ Ok tt) × (w ≡ Ok tt)
+pass-both (Ok _) w e = (refl, e)
+pass-both (Err r) w e = let z : ◌≡◌ {A = ℕ} 0 1 = cc in absurd (omega arith)

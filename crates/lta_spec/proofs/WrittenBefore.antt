@@ -1,4 +1,5 @@
 -- Request 2026-06: the speed frames that were written before it are refused by 18.
+use Rattle.std.specs.Prelude.{Ok}
 use mathlib.Core.Path.{◌≡◌, refl}
 use mathlib.Core.Bool.{true, false}
 use mathlib.Core.List.{List, [], ◌∷◌}
@@ -13,7 +14,6 @@ use Rattle.lta_spec.specs.Frame.{speed_frame, frame_length, frame_of, lag_words,
 use Rattle.lta_spec.specs.FrameCalls.{write_verdict, read_answer}
 use Rattle.lta_spec.specs.RoundTrip.{WrittenBefore}
 use Rattle.lta_spec.specs.declared.Fields.{Fields}
-use Rattle.lta_spec.specs.declared.Verdict.TheVariants as verdict
 use Rattle.lta_spec.proofs.TestLaws.{and_both}
 use Rattle.lta_spec.proofs.RoundTrips.{valid, written, bias_right, verdict-written}
 
@@ -32,7 +32,7 @@ module _ (n : ℕ) (f : Fields) (zs : List ℤ) (w : WrittenBefore n f zs) (some
   wrong =
       rw (eq-eqb f.kind speed_frame w.kind, ne_eqb (98 * f.ticks) (peak * f.ticks) (λ e. omega arith))
 
-  writes-now : write_verdict n f zs (frame_length f.kind n) ≡ verdict.Accepted
+  writes-now : write_verdict n f zs (frame_length f.kind n) ≡ Ok tt
   writes-now =
       written n f zs (frame_length f.kind n)
       (record {

@@ -1,29 +1,13 @@
--- Answers by document 01's numbers and values. The calls answer enums; each enum has here the number and the values
--- that document 01 gives for each of its cases, and the promises of the calls go through these definitions.
-use Rattle.std.specs.Prelude.{ℕ, List, [], ◌∷◌}
-use Rattle.lta_spec.specs.Refusals.{refusal_number, loss_number}
+-- Answers by document 01's numbers and values. A call answers a value, or the refusal that applies; here are the number
+-- and the values that document 01 gives for each, and the promises of the calls go through these definitions.
+use Rattle.std.specs.Prelude.{ℕ, List, [], ◌∷◌, Option, Some, None, Result, Ok, Err}
+use Rattle.lta_spec.specs.Refusals.{Verdict, refusal_number, loss_number}
 use Rattle.lta_spec.specs.declared.Complex.{Complex}
 use Rattle.lta_spec.specs.declared.Fields.{Fields}
 use Rattle.lta_spec.specs.declared.Refusal.{Refusal}
 use Rattle.lta_spec.specs.declared.Sums.{Sums}
-use Rattle.lta_spec.specs.declared.Needed.{Needed}
-use Rattle.lta_spec.specs.declared.Needed.TheVariants as needed
-use Rattle.lta_spec.specs.declared.Started.{Started}
-use Rattle.lta_spec.specs.declared.Started.TheVariants as started
-use Rattle.lta_spec.specs.declared.Ticked.{Ticked}
-use Rattle.lta_spec.specs.declared.Ticked.TheVariants as ticked
 use Rattle.lta_spec.specs.declared.Moved.{Moved}
 use Rattle.lta_spec.specs.declared.Moved.TheVariants as moved
-use Rattle.lta_spec.specs.declared.Written.{Written}
-use Rattle.lta_spec.specs.declared.Written.TheVariants as written
-use Rattle.lta_spec.specs.declared.Ledger.{Ledger}
-use Rattle.lta_spec.specs.declared.Ledger.TheVariants as ledger
-use Rattle.lta_spec.specs.declared.Forecast.{Forecast}
-use Rattle.lta_spec.specs.declared.Forecast.TheVariants as forecast
-use Rattle.lta_spec.specs.declared.Parsed.{Parsed}
-use Rattle.lta_spec.specs.declared.Parsed.TheVariants as parsed
-use Rattle.lta_spec.specs.declared.Normalised.{Normalised}
-use Rattle.lta_spec.specs.declared.Normalised.TheVariants as normalised
 
 pub data Answer : Type 0 where
   -- "A refusal returns its number alone"
@@ -47,52 +31,44 @@ number_in (fields f) = []
 number_in (normal z) = []
 number_in no_data = []
 
--- the words that a shape needs
-abbrev pub needed_as : Needed → Answer
-needed_as (needed.Words n) = number n
-needed_as (needed.Refused r) = refusal r
+-- a value as `told` tells it, or the refusal
+abbrev pub answer_as : {A : Type 0} → (told : A → Answer) → Result A Refusal → Answer
+answer_as told (Ok x) = told x
+answer_as told (Err r) = refusal r
+
+-- a number: the words that a shape needs; "a tick, the number of cells held off"; "an emission, the frame's length"; the
+-- writer too "answers the frame's length"; of a page "its length is the answer"; "the ticks a cell may still take before
+-- holdoff"
+abbrev pub numbered_as : Result ℕ Refusal → Answer
+numbered_as = answer_as number
 
 -- setup
-abbrev pub started_as : Started → Answer
-started_as started.Fresh = number 0
-started_as (started.Refused r) = refusal r
-
--- "a tick, the number of cells held off"
-abbrev pub ticked_as : Ticked → Answer
-ticked_as (ticked.HeldOff n) = number n
-ticked_as (ticked.Refused r) = refusal r
+abbrev pub started_as : Verdict → Answer
+started_as = answer_as (λ _. number 0)
 
 -- "a dump or integration, the loss number (4 if an old bin was replaced) .., 0 if kept, 7 for 111"; of 011, by request
 -- 2026-04, the length of its frame
-abbrev pub moved_as : Moved → Answer
-moved_as moved.Kept = number 0
-moved_as (moved.Lost l) = number (loss_number l)
-moved_as moved.Idle = number 7
-moved_as (moved.Sent n) = number n
-moved_as (moved.Refused r) = refusal r
+abbrev pub moved_number : Moved → ℕ
+moved_number moved.Kept = 0
+moved_number (moved.Lost l) = loss_number l
+moved_number moved.Idle = 7
+moved_number (moved.Sent n) = n
 
--- "an emission, the frame's length"; the writer too "answers the frame's length"; of a page "its length is the answer"
-abbrev pub written_as : Written → Answer
-written_as (written.Length n) = number n
-written_as (written.Refused r) = refusal r
+abbrev pub moved_as : Result Moved Refusal → Answer
+moved_as = answer_as (λ m. number (moved_number m))
 
 -- "A reading gives, for one cell, lag and loss number, the I and Q sums, ticks, and both counts."
-abbrev pub ledger_as : Ledger → Answer
-ledger_as (ledger.Entry s) = entry s
-ledger_as (ledger.Refused r) = refusal r
-
--- "the ticks a cell may still take before holdoff"
-abbrev pub forecast_as : Forecast → Answer
-forecast_as (forecast.Ticks n) = number n
-forecast_as (forecast.Refused r) = refusal r
+abbrev pub ledger_as : Result Sums Refusal → Answer
+ledger_as = answer_as entry
 
 -- "The reader .. returns the fields"
-abbrev pub parsed_as : Parsed → Answer
-parsed_as (parsed.Frame f) = fields f
-parsed_as (parsed.Refused r) = refusal r
+abbrev pub parsed_as : Result Fields Refusal → Answer
+parsed_as = answer_as fields
 
 -- "I and Q each divided by the centre count in f64"; "if that count is 0", no data
-abbrev pub normalised_as : Normalised → Answer
-normalised_as (normalised.Lag z) = normal z
-normalised_as normalised.NoData = no_data
-normalised_as (normalised.Refused r) = refusal r
+abbrev pub lag_as : Option Complex → Answer
+lag_as (Some z) = normal z
+lag_as None = no_data
+
+abbrev pub normalised_as : Result (Option Complex) Refusal → Answer
+normalised_as = answer_as lag_as

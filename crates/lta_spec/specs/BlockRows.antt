@@ -1,6 +1,6 @@
 -- Requests 2026-01 and 2026-04: lists of calls, and the block that each ends with. proofs/BlockRows.antt proves them,
 -- of the machine by computing and of work memory by demand 3.
-use Rattle.std.specs.Prelude.{ℕ, ◌+◌, ◌<◌, ◌≡◌, List, [], ◌∷◌, ◌++◌, map, replicate}
+use Rattle.std.specs.Prelude.{ℕ, ◌+◌, ◌<◌, ◌≡◌, List, [], ◌∷◌, ◌++◌, map, replicate, Ok}
 use Rattle.lta_spec.specs.Call.{Call}
 use Rattle.lta_spec.specs.Call.Call.{dump, integrate}
 use Rattle.lta_spec.specs.MachineRun as R
@@ -10,7 +10,6 @@ use Rattle.lta_spec.specs.Step as S
 use Rattle.lta_spec.specs.Demand.{Listed, machine_after, mem_after}
 use Rattle.lta_spec.specs.Demand.Listed.{on_run}
 use Rattle.lta_spec.specs.declared.Shape.{Shape}
-use Rattle.lta_spec.specs.declared.Verdict.TheVariants.{Accepted}
 
 abbrev pub called_on : List Call → List Listed
 called_on calls = map (λ c. on_run c) calls
@@ -85,6 +84,6 @@ pub record BlockRows : Type 0 where
   pub refused-counts-not : Ends three_blocks (dumps (0 ∷ 1 ∷ []) ++ dump 0 4 1 2 [] ∷ dumped 2 ∷ []) 20 3
   -- every accepted dump, on any work memory, names a data bin of its bank
   pub bin-below : (sh : Shape) (mem : List ℕ) (c command bank phase : ℕ) (out : List ℕ)
-      → S.verdict sh mem (dump c command bank phase out) ≡ Accepted
+      → S.verdict sh mem (dump c command bank phase out) ≡ Ok tt
       → let k = E.counted sh.blocks command (S.unit_at sh c ((run_layout sh).get mem)).counter in
       (E.dump_label sh.blocks command bank phase k.offset).bin < sh.bins

@@ -1,9 +1,9 @@
 -- Document 01, demand 3, as one statement for every list of calls after one setup: "One theorem covers the list from
 -- end to end". proofs/Demand.antt proves it.
-use Rattle.std.specs.Prelude.{ℕ, zero, suc, ◌+◌, ◌*◌, ◌/◌, ◌%◌, ◌≤◌, ◌<◌, ◌≡◌, Bool, cond, ◌&&◌, eqb, ℤ, pos, ◌+ℤ◌, length, get_or, take}
+use Rattle.std.specs.Prelude.{ℕ, zero, suc, ◌+◌, ◌*◌, ◌/◌, ◌%◌, ◌≤◌, ◌<◌, ◌≡◌, Bool, cond, ◌&&◌, eqb, ℤ, pos, ◌+ℤ◌, length, get_or, take, Ok, Err}
 use mathlib.Core.List.{List, [], ◌∷◌, ◌++◌, map, Memᴰ}
 use Rattle.lta_spec.specs.Words.{over_all}
-use Rattle.lta_spec.specs.Refusals.{first_of}
+use Rattle.lta_spec.specs.Refusals.{first_of, Verdict}
 use Rattle.lta_spec.specs.Size.{memory_words, host_tests}
 use Rattle.lta_spec.specs.Tick.{Sample, edge_lag, centre_lag}
 use Rattle.lta_spec.specs.Place.{Stamped, Cell}
@@ -35,8 +35,6 @@ use Rattle.lta_spec.specs.RoundTrip.{lags_read}
 use Rattle.lta_spec.specs.declared.Shape.{Shape}
 use Rattle.lta_spec.specs.declared.Fields.{Fields}
 use Rattle.lta_spec.specs.declared.Sums.{Sums}
-use Rattle.lta_spec.specs.declared.Verdict.{Verdict}
-use Rattle.lta_spec.specs.declared.Verdict.TheVariants.{Accepted, Refused}
 
 -- A call as it stands in a list: on the run's own work memory with the setup's shape, or with another shape or other
 -- work memory, whose words are `given`.
@@ -45,8 +43,8 @@ pub data Listed : Type 0 where
   on_other : Shape → Call → (given : List ℕ) → Listed
 
 abbrev pub Refuses : Verdict → Type 0
-Refuses Accepted = ⊥
-Refuses (Refused r) = Prim.Unit {0}
+Refuses (Ok _) = ⊥
+Refuses (Err r) = Prim.Unit {0}
 
 -- "A call with another shape or length of work memory stands there only if 1 or 2 refuses it."
 abbrev pub Stands : Listed → Type 0

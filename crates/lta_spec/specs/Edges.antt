@@ -1,8 +1,8 @@
 -- Document 01, "Edges of the rules": the rows marked P, as one statement about the definitions, with rows that a
 -- wrong sign, order or number would break, and those of the requests. proofs/Edges.antt proves it.
-use Rattle.std.specs.Prelude.{ℕ, ◌+◌, ◌-◌, ◌%◌, ◌<◌, ◌≡◌, true, false, List, [], ◌∷◌, ◌++◌, map, eqb, ℤ, pos, length, replicate, take}
+use Rattle.std.specs.Prelude.{ℕ, ◌+◌, ◌-◌, ◌%◌, ◌<◌, ◌≡◌, true, false, List, [], ◌∷◌, ◌++◌, map, eqb, ℤ, pos, length, replicate, take, Ok, Err}
 use Rattle.lta_spec.specs.Words.{sums}
-use Rattle.lta_spec.specs.Refusals.{refusal_number, loss_number, test, first_of}
+use Rattle.lta_spec.specs.Refusals.{refusal_number, loss_number, test, first_of, Verdict}
 use Rattle.lta_spec.specs.Bytes.{bytes_of}
 use Rattle.lta_spec.specs.Frame.{mark, accumulated, frame_length}
 use Rattle.lta_spec.specs.Tick.{Entry, from_sample, x_delay, y_delay, weight, both_valid, in_phase, quadrature}
@@ -26,8 +26,6 @@ use Rattle.lta_spec.specs.WorkedRun.{answer_only, minus, worked_shape, worked_ru
 use Rattle.lta_spec.specs.declared.Shape.{Shape}
 use Rattle.lta_spec.specs.declared.Refusal.{Refusal}
 use Rattle.lta_spec.specs.declared.Refusal.TheVariants as no
-use Rattle.lta_spec.specs.declared.Verdict.{Verdict}
-use Rattle.lta_spec.specs.declared.Verdict.TheVariants.{Accepted, Refused}
 use Rattle.lta_spec.specs.declared.Loss.{Loss}
 use Rattle.lta_spec.specs.declared.Loss.TheVariants.{Ordered, Overrun, Full, Replaced, Wide, Holdoff}
 
@@ -168,20 +166,20 @@ pub record Edges : Type 0 where
   -- the bins of bank 0, then those of bank 1
   pub bin-order : bin_index 6 1 4 ≡ 10
   -- "4: t is 2,147,483,648"
-  pub last-tick : told 2147483647 3 3 ≡ Accepted
-  pub run-full : told 2147483648 3 3 ≡ Refused no.RunFull
+  pub last-tick : told 2147483647 3 3 ≡ Ok tt
+  pub run-full : told 2147483648 3 3 ≡ Err no.RunFull
   -- 19 "when a validity byte has another bit set, tested after 3 and before 4": bit 2, bit 7 alone, of either cell
-  pub validity : map (λ v. told 2147483648 v 0) (0 ∷ 1 ∷ 2 ∷ 3 ∷ []) ≡ replicate 4 (Refused no.RunFull)
+  pub validity : map (λ v. told 2147483648 v 0) (0 ∷ 1 ∷ 2 ∷ 3 ∷ []) ≡ replicate 4 (Err no.RunFull)
   pub other-bits : map (λ v. told 2147483648 v 3) (4 ∷ 7 ∷ 8 ∷ 16 ∷ 32 ∷ 64 ∷ 128 ∷ 255 ∷ [])
-      ≡ replicate 8 (Refused no.BadValidity)
-  pub next-cell : map (told 0 3) (3 ∷ 4 ∷ 128 ∷ []) ≡ Accepted ∷ Refused no.BadValidity ∷ Refused no.BadValidity ∷ []
+      ≡ replicate 8 (Err no.BadValidity)
+  pub next-cell : map (told 0 3) (3 ∷ 4 ∷ 128 ∷ []) ≡ Ok tt ∷ Err no.BadValidity ∷ Err no.BadValidity ∷ []
   pub samples-first : first_of (R.call_tests worked_shape (before_tick 0) (tick (1 ∷ 2 ∷ 128 ∷ 0 ∷ 0 ∷ [])))
-      ≡ Refused no.WrongSamples
+      ≡ Err no.WrongSamples
   -- "Who may be told no": 1 to 17, 18 of request 2026-04 and 19 of 2026-06
   pub refusal-numbers : map refusal_number all_refusals
       ≡ 1 ∷ 2 ∷ 3 ∷ 4 ∷ 5 ∷ 6 ∷ 7 ∷ 8 ∷ 9 ∷ 10 ∷ 11 ∷ 12 ∷ 13 ∷ 14 ∷ 15 ∷ 16 ∷ 17 ∷ 18 ∷ 19 ∷ []
   -- "Where several apply, the order stands after each group."
-  pub first-applies : first_of (test false no.NoCell ∷ test false no.BadCommand ∷ []) ≡ Refused no.NoCell
+  pub first-applies : first_of (test false no.NoCell ∷ test false no.BadCommand ∷ []) ≡ Err no.NoCell
   -- "1 ordered, 2 overrun, 3 full, 4 replaced, 5 wide, 6 holdoff"
   pub loss-numbers : map loss_number six_losses ≡ 1 ∷ 2 ∷ 3 ∷ 4 ∷ 5 ∷ 6 ∷ []
   pub loss-places : map (λ l. loss_place (loss_number l)) six_losses

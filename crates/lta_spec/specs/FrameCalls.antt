@@ -4,7 +4,7 @@ use Rattle.std.specs.Prelude.{ℕ, ◌+◌, ◌*◌, Bool, cond, ◌&&◌, List,
 use Rattle.std.specs.Float.{binary64}
 use Rattle.std.specs.Float.Ieee.{div, of_int}
 use Rattle.lta_spec.specs.Words.{part, splice}
-use Rattle.lta_spec.specs.Refusals.{Test, test, first_of, decided}
+use Rattle.lta_spec.specs.Refusals.{Test, test, first_of, decided, Verdict}
 use Rattle.lta_spec.specs.Answer.{Answer, refusal}
 use Rattle.lta_spec.specs.Answer.Answer.{number, fields, normal, no_data}
 use Rattle.lta_spec.specs.Shape.{lag_count_ok}
@@ -31,7 +31,6 @@ use Rattle.lta_spec.specs.declared.Fields.{Fields}
 use Rattle.lta_spec.specs.declared.Span.{Span}
 use Rattle.lta_spec.specs.declared.Refusal.TheVariants.{BadShape, ShortBuffer, NoLag}
 use Rattle.lta_spec.specs.declared.Refusal.TheVariants.{WrongLength, WrongMark, WrongSum, BadField, WrongBias}
-use Rattle.lta_spec.specs.declared.Verdict.{Verdict}
 
 -- 14: the bytes start with the mark
 unfoldable pub marked : (s : List ℕ) → Bool

@@ -1,6 +1,6 @@
 -- Request 2026-03, what a loss page shows, read back from its bytes: on any work memory, and behind every list of calls
 -- of demand 3. proofs/LossPages.antt proves it.
-use Rattle.std.specs.Prelude.{ℕ, zero, suc, ◌+◌, ◌*◌, ◌-◌, ◌≤◌, ◌<◌, ◌≡◌, true, List, length, take}
+use Rattle.std.specs.Prelude.{ℕ, zero, suc, ◌+◌, ◌*◌, ◌-◌, ◌≤◌, ◌<◌, ◌≡◌, true, List, length, take, Ok}
 use Rattle.lta_spec.specs.Words.{part, over_all}
 use Rattle.lta_spec.specs.Shape.{shape_ok}
 use Rattle.lta_spec.specs.Decimal.{read_number}
@@ -15,7 +15,6 @@ use Rattle.lta_spec.specs.Step as S
 use Rattle.lta_spec.specs.Demand.{Listed, AllStand, machine_after, mem_after}
 use Rattle.lta_spec.specs.declared.Shape.{Shape}
 use Rattle.lta_spec.specs.declared.Counts.{Counts}
-use Rattle.lta_spec.specs.declared.Verdict.TheVariants.{Accepted}
 
 -- the three numbers of a line
 pub data Number : Type 0 where
@@ -68,11 +67,11 @@ over_ledger n k m =
 
 pub record LossPages : Type 0 where
   -- whatever work memory holds
-  pub shows : (sh : Shape) (mem out : List ℕ) → S.verdict sh mem (page out) ≡ Accepted
+  pub shows : (sh : Shape) (mem out : List ℕ) → S.verdict sh mem (page out) ≡ Ok tt
       → Shows sh ((run_layout sh).get mem) (page_left sh mem out)
   -- behind a list of demand 3 a page with room is not refused: 11 does not arise, of six losses together neither
   pub accepts : (sh : Shape) → shape_ok sh ≡ true → (cs : List Listed) → AllStand cs → (out : List ℕ)
-      → 41 * (6 * sh.cells + 1) ≤ length out → S.verdict sh (mem_after sh cs) (page out) ≡ Accepted
+      → 41 * (6 * sh.cells + 1) ≤ length out → S.verdict sh (mem_after sh cs) (page out) ≡ Ok tt
   -- "and also the sums over the ledger of the run"
   pub ledger : (sh : Shape) → shape_ok sh ≡ true → (cs : List Listed) → AllStand cs → (out : List ℕ)
       → 41 * (6 * sh.cells + 1) ≤ length out → (k : Number)

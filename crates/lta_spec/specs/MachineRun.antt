@@ -2,7 +2,7 @@
 -- of each call, of work memory the length alone.
 use Rattle.std.specs.Prelude.{ℕ, suc, ◌+◌, ◌-◌, ◌/◌, ◌%◌, Bool, true, false, cond, not, ◌&&◌, List, [], ◌∷◌, ◌++◌, map, leb, ltb, eqb, length, get_or, set, drop, replicate}
 use Rattle.lta_spec.specs.Words.{splice, joined, some}
-use Rattle.lta_spec.specs.Refusals.{Test, test, first_of, decided}
+use Rattle.lta_spec.specs.Refusals.{Test, test, first_of, decided, Verdict}
 use Rattle.lta_spec.specs.Shape.{run_limit}
 use Rattle.lta_spec.specs.Size.{host_tests}
 use Rattle.lta_spec.specs.Place.{Label, Cell, ready, loss_count}
@@ -24,7 +24,6 @@ use Rattle.lta_spec.specs.declared.Counts.{Counts}
 use Rattle.lta_spec.specs.declared.Refusal.TheVariants.{WrongSamples, RunFull, NoCell, BadCommand, NoBin}
 use Rattle.lta_spec.specs.declared.Refusal.TheVariants.{NothingHeld, NotReady, ShortBuffer, NoLag, BadValidity}
 use Rattle.lta_spec.specs.declared.Refusal.TheVariants.{NothingReady}
-use Rattle.lta_spec.specs.declared.Verdict.{Verdict}
 
 -- One cell of a run: its places, its block counter, "the bin last picked in that cell" by its place in the list of
 -- bins, its emitted frames, newest first, and what the accepted ticks brought of X and Y, newest first, from which all

@@ -1,9 +1,7 @@
 -- Document 01, "Who may be told no": the numbers, and the first refusal that applies.
-use Rattle.std.specs.Prelude.{ℕ, Bool, cond, List, [], ◌∷◌}
+use Rattle.std.specs.Prelude.{ℕ, Bool, cond, List, [], ◌∷◌, Result, Ok, Err}
 use Rattle.lta_spec.specs.declared.Refusal.{Refusal}
 use Rattle.lta_spec.specs.declared.Refusal.TheVariants as no
-use Rattle.lta_spec.specs.declared.Verdict.{Verdict}
-use Rattle.lta_spec.specs.declared.Verdict.TheVariants.{Accepted, Refused}
 use Rattle.lta_spec.specs.declared.Loss.{Loss}
 use Rattle.lta_spec.specs.declared.Loss.TheVariants as loss
 
@@ -47,12 +45,16 @@ pub record Test : Type 0 where
 abbrev pub test : Bool → Refusal → Test
 test b r = record { passes = b; otherwise = r }
 
+-- what the ordered tests of a call say: nothing, or a refusal
+abbrev pub Verdict : Type 0
+Verdict = Result (Unit {0}) Refusal
+
 -- the first refusal that applies: "Where several apply, the order stands after each group."
 abbrev pub first_of : List Test → Verdict
-first_of [] = Accepted
-first_of (x ∷ xs) = cond x.passes (first_of xs) (Refused x.otherwise)
+first_of [] = Ok tt
+first_of (x ∷ xs) = cond x.passes (first_of xs) (Err x.otherwise)
 
 -- what follows from a verdict: `refused r` where r applies, `done` where no refusal does
 abbrev pub decided : {A : Type 0} → Verdict → (refused : Refusal → A) → (done : A) → A
-decided Accepted refused done = done
-decided (Refused r) refused done = refused r
+decided (Ok _) refused done = done
+decided (Err r) refused done = refused r

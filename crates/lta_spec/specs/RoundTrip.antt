@@ -1,7 +1,7 @@
 -- The two round trips of a frame of either kind, for every N, that no bytes are accepted as both kinds, that speed
 -- frames of the limit before are refused, and the reading of a frame that a run sent, as one statement about the calls.
 -- proofs/EmittedBack.antt proves it, with RoundTrips, Rewritten and WrittenBefore beside it.
-use Rattle.std.specs.Prelude.{ℕ, ◌*◌, ◌≤◌, ◌<◌, ◌≡◌, true, List, [], ◌++◌, map, ℤ, length, get_or, take, drop}
+use Rattle.std.specs.Prelude.{ℕ, ◌*◌, ◌≤◌, ◌<◌, ◌≡◌, true, List, [], ◌++◌, map, ℤ, length, get_or, take, drop, Ok}
 use Rattle.lta_spec.specs.Words.{splice, every}
 use Rattle.lta_spec.specs.Bytes.{words_of, signed}
 use Rattle.lta_spec.specs.Answer.Answer.{refused, fields}
@@ -18,7 +18,6 @@ use Rattle.lta_spec.specs.Memory.{run_layout}
 use Rattle.lta_spec.specs.Step as S
 use Rattle.lta_spec.specs.declared.Fields.{Fields}
 use Rattle.lta_spec.specs.declared.Shape.{Shape}
-use Rattle.lta_spec.specs.declared.Verdict.TheVariants.{Accepted}
 
 -- the bytes that an accepted write leaves at the start of its buffer
 abbrev pub written_to : (n : ℕ) → Fields → List ℤ → (out : List ℕ) → List ℕ
@@ -87,31 +86,31 @@ pub record WrittenBefore (n : ℕ) (f : Fields) (zs : List ℤ) : Type 0 where
 
 pub record RoundTrip : Type 0 where
   -- a frame written and read back gives its fields, and its lag part the lag numbers
-  pub fields_back : (n : ℕ) (f : Fields) (zs : List ℤ) (out : List ℕ) → write_verdict n f zs (length out) ≡ Accepted
+  pub fields_back : (n : ℕ) (f : Fields) (zs : List ℤ) (out : List ℕ) → write_verdict n f zs (length out) ≡ Ok tt
       → read_answer n (written_to n f zs out) ≡ fields f
-  pub lags-back : (n : ℕ) (f : Fields) (zs : List ℤ) (out : List ℕ) → write_verdict n f zs (length out) ≡ Accepted
+  pub lags-back : (n : ℕ) (f : Fields) (zs : List ℤ) (out : List ℕ) → write_verdict n f zs (length out) ≡ Ok tt
       → lags_read n (written_to n f zs out) ≡ zs
   -- an accepted frame, written again from what was read, gives its bytes
-  pub bytes_back : (n : ℕ) (s out : List ℕ) → ((i : ℕ) → get_or s i 0 < 256) → read_verdict n s ≡ Accepted
+  pub bytes_back : (n : ℕ) (s out : List ℕ) → ((i : ℕ) → get_or s i 0 < 256) → read_verdict n s ≡ Ok tt
       → length s ≤ length out
       → write_leaves n (fields_of (body_of s)) (lag_numbers (fields_of (body_of s)).kind n (body_of s)) out ≡ splice out 0 s
   -- no bytes are accepted as both kinds: an accepted frame with bytes behind it is no accepted frame
-  pub one-kind : (n : ℕ) (s behind : List ℕ) → read_verdict n s ≡ Accepted → read_verdict n (s ++ behind) ≡ Accepted
+  pub one-kind : (n : ℕ) (s behind : List ℕ) → read_verdict n s ≡ Ok tt → read_verdict n (s ++ behind) ≡ Ok tt
       → behind ≡ []
   -- "A speed frame written before with any ticks in it is then refused by 18."
   pub written-before : (n : ℕ) (f : Fields) (zs : List ℤ) → WrittenBefore n f zs → 0 < f.ticks
       → read_answer n (frame_of (header_with (98 * f.ticks) f) (lag_words zs)) ≡ refused 18
   -- an emission that is accepted, whatever work memory holds: what is read back is what stood in the bin
   pub emitted-back : (sh : Shape) (c bank bin : ℕ) (mem out : List ℕ)
-      → S.verdict sh mem (emit c bank bin out) ≡ Accepted
+      → S.verdict sh mem (emit c bank bin out) ≡ Ok tt
       → RowBack sh accumulated c bank bin (stored_bin sh c bank bin mem) (emitted_to sh c bank bin mem out)
   -- a pick that is accepted: what is read back is what stood in the bin that it took, under that bin's name
-  pub picked-back : (sh : Shape) (mem out : List ℕ) → S.verdict sh mem (pick out) ≡ Accepted
+  pub picked-back : (sh : Shape) (mem out : List ℕ) → S.verdict sh mem (pick out) ≡ Ok tt
       → let p = picked_place sh mem in
       RowBack sh accumulated p.cell p.bank p.bin (stored_bin sh p.cell p.bank p.bin mem)
       (picked_to sh mem out)
   -- a speed dump that is accepted: what is read back is what stood in Open, under the dump's label
   pub speed-back : (sh : Shape) (c bank phase : ℕ) (mem out : List ℕ)
-      → S.verdict sh mem (dump c speed bank phase out) ≡ Accepted
+      → S.verdict sh mem (dump c speed bank phase out) ≡ Ok tt
       → RowBack sh speed_frame c bank (speed_bin sh c bank phase mem) (stored_open sh c mem)
       (speed_to sh c bank phase mem out)

@@ -2,7 +2,7 @@
 -- cite.
 use Rattle.std.specs.Prelude.{ℕ, suc, ◌+◌, ◌*◌, ◌-◌, Bool, true, false, cond, not, ◌&&◌, List, [], ◌∷◌, ◌++◌, map, leb, ltb, eqb, length, get_or, set, drop}
 use Rattle.lta_spec.specs.Words.{splice, joined, every}
-use Rattle.lta_spec.specs.Refusals.{Test, test, first_of, decided}
+use Rattle.lta_spec.specs.Refusals.{Test, test, first_of, decided, Verdict}
 use Rattle.lta_spec.specs.Shape.{shape_ok, run_limit}
 use Rattle.lta_spec.specs.Size.{memory_words, host_tests}
 use Rattle.lta_spec.specs.Place.{Label, Stamped, Cell, ready, loss_count}
@@ -70,7 +70,6 @@ use Rattle.lta_spec.specs.declared.Refusal.TheVariants.{
   BadValidity,
   NothingReady,
 }
-use Rattle.lta_spec.specs.declared.Verdict.{Verdict}
 
 -- how many words a shape needs
 abbrev pub size_answer : Shape → Answer

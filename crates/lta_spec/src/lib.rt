@@ -1,8 +1,10 @@
 // The types of the calls. What the calls mean is in specs/, in the order of document 01.
 #![tactic(auto)]
 
+mod numbers;
+
 // The shape of a run: C, N, B, M, S, R and Z of document 01.
-#[derive(Clone, Copy)]
+#[derive(Clone, Copy, Debug, PartialEq, Eq)]
 pub struct Shape {
     // C: cells, the memo's lag cells.
     pub cells: u64,
@@ -21,7 +23,7 @@ pub struct Shape {
 }
 
 // Who may be told no: a name for each number of documents 01 and 02, in the order 1 to 20.
-#[derive(Clone, Copy)]
+#[derive(Clone, Copy, Debug, PartialEq, Eq)]
 pub enum Refusal {
     BadShape,
     WrongMemory,
@@ -45,15 +47,8 @@ pub enum Refusal {
     NothingReady,
 }
 
-// What the ordered tests of a call say.
-#[derive(Clone, Copy)]
-pub enum Verdict {
-    Accepted,
-    Refused(Refusal),
-}
-
 // The six losses, in the order 1 to 6.
-#[derive(Clone, Copy)]
+#[derive(Clone, Copy, Debug, PartialEq, Eq)]
 pub enum Loss {
     Ordered,
     Overrun,
@@ -63,47 +58,18 @@ pub enum Loss {
     Holdoff,
 }
 
-// How many words of work memory a shape needs.
-#[derive(Clone, Copy)]
-pub enum Needed {
-    Words(u64),
-    Refused(Refusal),
-}
-
-// Setup.
-#[derive(Clone, Copy)]
-pub enum Started {
-    Fresh,
-    Refused(Refusal),
-}
-
-// A tick: the number of cells held off.
-#[derive(Clone, Copy)]
-pub enum Ticked {
-    HeldOff(u64),
-    Refused(Refusal),
-}
-
 // A dump or an integration: kept, the loss that it added to, nothing to do (command 111), or the length in bytes of the
 // speed frame that is written (command 011).
-#[derive(Clone, Copy)]
+#[derive(Clone, Copy, Debug, PartialEq, Eq)]
 pub enum Moved {
     Kept,
     Lost(Loss),
     Idle,
     Sent(u64),
-    Refused(Refusal),
-}
-
-// An emission, a frame written from its fields, or a loss page: the length in bytes of what is written.
-#[derive(Clone, Copy)]
-pub enum Written {
-    Length(u64),
-    Refused(Refusal),
 }
 
 // The numbers of one loss at one lag.
-#[derive(Clone, Copy)]
+#[derive(Clone, Copy, Debug, PartialEq, Eq)]
 pub struct Sums {
     pub i: i64,
     pub q: i64,
@@ -112,30 +78,16 @@ pub struct Sums {
     pub centre: u64,
 }
 
-// A reading of the ledger.
-#[derive(Clone, Copy)]
-pub enum Ledger {
-    Entry(Sums),
-    Refused(Refusal),
-}
-
 // The numbers of one line of a loss page.
-#[derive(Clone, Copy)]
+#[derive(Clone, Copy, Debug, PartialEq, Eq)]
 pub struct Counts {
     pub ticks: u64,
     pub edge: u64,
     pub centre: u64,
 }
 
-// A forecast: ticks that a cell may still take.
-#[derive(Clone, Copy)]
-pub enum Forecast {
-    Ticks(u64),
-    Refused(Refusal),
-}
-
 // The fields of a frame's header words.
-#[derive(Clone, Copy)]
+#[derive(Clone, Copy, Debug, PartialEq, Eq)]
 pub struct Fields {
     // The memo's frame type: 2, a frame of the accumulator; 3, a speed frame.
     pub kind: u32,
@@ -165,17 +117,10 @@ pub const PEAK: u32 = 128;
 pub const MARK: [u8; 2] = [0x4c, 0x54];
 
 // A part of a slice: where it starts, and how long it is.
-#[derive(Clone, Copy)]
+#[derive(Clone, Copy, Debug, PartialEq, Eq)]
 pub struct Span {
     pub at: u64,
     pub length: u64,
-}
-
-// What the frame reader answers.
-#[derive(Clone, Copy)]
-pub enum Parsed {
-    Frame(Fields),
-    Refused(Refusal),
 }
 
 // Real and imaginary part of one normalised lag.
@@ -183,12 +128,4 @@ pub enum Parsed {
 pub struct Complex {
     pub re: f64,
     pub im: f64,
-}
-
-// A normalised lag, or no data where the centre count is 0.
-#[derive(Clone, Copy)]
-pub enum Normalised {
-    Lag(Complex),
-    NoData,
-    Refused(Refusal),
 }

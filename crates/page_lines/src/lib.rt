@@ -18,8 +18,8 @@ fn put_column(out: &mut [u8], at: usize, n: u64) -> usize
     ensures behind { result ≡ at + 12 }
     ensures leaves { out.new ≡ splice out.old at (space ∷ right_aligned 11 n) }
 {
-    let b = put_byte(&mut *out, at, b' ');
-    put_right(&mut *out, b, 11, n)
+    let b = put_byte(out, at, b' ');
+    put_right(out, b, 11, n)
 }
 
 // The columns of the three numbers, and the line feed.
@@ -27,10 +27,10 @@ fn put_counts(out: &mut [u8], at: usize, k: Counts)
     requires { Within page_limit k × (at + 37 ≤ length out.old) }
     ensures { out.new ≡ splice out.old at (count_columns k) }
 {
-    let a = put_column(&mut *out, at, k.ticks);
-    let b = put_column(&mut *out, a, k.edge);
-    let c = put_column(&mut *out, b, k.centre);
-    put_byte(&mut *out, c, b'\n');
+    let a = put_column(out, at, k.ticks);
+    let b = put_column(out, a, k.edge);
+    let c = put_column(out, b, k.centre);
+    put_byte(out, c, b'\n');
 }
 
 // The line of loss i + 1 of a cell.
@@ -38,10 +38,10 @@ pub fn put_loss_line(out: &mut [u8], at: usize, cell: u64, i: u64, k: Counts)
     requires { ((cell < 100) × (i < 9)) × (Within page_limit k × (at + 41 ≤ length out.old)) }
     ensures { out.new ≡ splice out.old at (loss_line cell i k) }
 {
-    let a = put_right(&mut *out, at, 2, cell);
-    let b = put_byte(&mut *out, a, b' ');
-    let c = put_right(&mut *out, b, 1, i + 1);
-    put_counts(&mut *out, c, k);
+    let a = put_right(out, at, 2, cell);
+    let b = put_byte(out, a, b' ');
+    let c = put_right(out, b, 1, i + 1);
+    put_counts(out, c, k);
 }
 
 // The last line.
@@ -49,6 +49,6 @@ pub fn put_totals_line(out: &mut [u8], at: usize, k: Counts)
     requires { Within page_limit k × (at + 41 ≤ length out.old) }
     ensures { out.new ≡ splice out.old at (totals_line k) }
 {
-    let a = put_bytes(&mut *out, at, b"** *");
-    put_counts(&mut *out, a, k);
+    let a = put_bytes(out, at, b"** *");
+    put_counts(out, a, k);
 }

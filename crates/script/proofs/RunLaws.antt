@@ -40,7 +40,7 @@ same_line r a out mem = ap (line (letters_of r)) (same-fields r a _ _ (by_kind r
   where
     by_kind : (r : Record) (k : ℕ)
         → value_fields r k (buffer_after r out mem) ≡ value_fields r k (step_of r out mem).out
-    by_kind (kind.Tick x y valid) k = refl
+    by_kind (kind.Tick t) k = refl
     by_kind (kind.Dump d) k = refl
     by_kind (kind.Integrate cell) k = refl
     by_kind (kind.Emit e) k = refl

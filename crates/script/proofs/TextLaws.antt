@@ -7,8 +7,11 @@ use native.Mathlib.Omega.{arith}
 use lib.Dec.{eqb, leb}
 use lib.ListN.{length, length-append}
 use Rattle.lta_spec.specs.Words.{splice}
+use Rattle.std.specs.Prelude.{Ok, Err}
+use Rattle.lta_spec.specs.Refusals.{Verdict}
 use Rattle.lta_spec.specs.Answer.{refusal}
 use Rattle.lta_spec.specs.Answer.Answer.{number}
+use Rattle.lta_spec.specs.declared.Refusal.{Refusal}
 use Rattle.lta_spec.specs.declared.Refusal.TheVariants.{ShortBuffer}
 use Rattle.lta_spec.proofs.WordLaws.{splice-behind}
 use Rattle.script_bytes.specs.Bytes.{records_in}
@@ -25,6 +28,12 @@ small_by false = omega arith
 
 pub end_short : (left : List ℕ) {n : ℕ} → n ≡ end_number left → length (end_line n) ≤ 7
 end_short left e = rw e (end-most (end_number left) (small_by (eqb (length left) 0)))
+
+-- the test on the room fails
+pub short : (room : Bool) (e : Refusal) → cond {A = Verdict} room (Ok tt) (Err ShortBuffer) ≡ Err e
+    → (room ≡ false) × (ShortBuffer ≡ e)
+short true e h = let never : ◌≡◌ {A = ℕ} 0 1 = cc in absurd (omega arith)
+short false e h = let same : ShortBuffer ≡ e = cc in (refl, same)
 
 -- a length that is answered, and a refusal
 pub length-inside : (n : ℕ) (out : List ℕ) → n ≤ length out → Inside (number n) out

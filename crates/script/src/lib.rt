@@ -13,7 +13,7 @@ ghost use Rattle.script.specs.Text.{record_line, script_lines};
 
 use script_bytes::{next_at, size_at};
 pub use script_calls::{call, shape};
-use script_lines::put_answer;
+use script_lines::{FRAME, put_answer};
 use script_records::{Next, Record};
 
 // Where the records of some bytes stopped, and how many bytes of lines there are.
@@ -31,9 +31,9 @@ fn run(mem: &mut [u64], r: Record, lines: &mut [u8], at: usize) -> usize
     ensures line { lines.new ≡ splice lines.old at (record_line r mem.old) }
     ensures few { result ≤ at + most_bytes r }
 {
-    let mut out = [0u8; 54];
-    let t = call(&mut *mem, r, &mut out);
-    put_answer(&mut *lines, at, r, t, &out)
+    let mut out = [0u8; FRAME];
+    let t = call(mem, r, &mut out);
+    put_answer(lines, at, r, t, &out)
 }
 
 // Every whole record of some bytes in turn, their lines from the start of the buffer on. A record of s bytes has a
@@ -47,14 +47,12 @@ fn run_records(mem: &mut [u64], b: &[u8], lines: &mut [u8]) -> Ran
         ≡ splice lines.old 0 (script_lines b.now mem.old) }
     ensures few { result.len ≤ 24 * length b.now }
 {
-    let mut at: usize = 0;
-    let mut len: usize = 0;
+    let mut ran = Ran { at: 0, len: 0 };
     loop {
-        let n = next_at(b, at);
-        let Next::Record(r) = n else {
-            return Ran { at: at, len: len };
+        let Next::Record(r) = next_at(b, ran.at) else {
+            return ran;
         };
-        len = run(&mut *mem, r, &mut *lines, len);
-        at = at + size_at(b, at);
+        ran.len = run(mem, r, lines, ran.len);
+        ran.at += size_at(b, ran.at);
     }
 }

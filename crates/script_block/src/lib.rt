@@ -6,7 +6,6 @@ ghost use Rattle.std.specs.Prelude.{◌≡◌, ◌≤◌, length, take};
 ghost use Rattle.script_bytes.specs.Bytes.{stops_at};
 ghost use Rattle.script_block.specs.Block.{Filled, Left, end_number};
 
-use host_answer::refusal_number;
 use lta_spec::Refusal;
 use std::io::Read;
 
@@ -16,10 +15,7 @@ pub fn fill<R: Read>(input: &mut R, block: &mut [u8], kept: usize) -> usize
     requires { kept ≤ length block.old }
     ensures { Filled kept block.old result block.new }
 {
-    match input.read(&mut block[kept..]) {
-        Ok(got) => kept + got,
-        Err(_) => kept,
-    }
+    kept + input.read(&mut block[kept..]).unwrap_or(0)
 }
 
 // Moves what is left of the first n bytes, those from `at` on, to the front; answers how many bytes these are.
@@ -28,21 +24,17 @@ pub fn to_front(block: &mut [u8], at: usize, n: usize) -> usize
     requires stopped { at ≡ stops_at (take n block.old) }
     ensures { Left (take n block.old) result block.new }
 {
-    let left = n - at;
-    let mut i: usize = 0;
-    while i < left {
-        block[i] = block[at + i];
-        i += 1;
-    }
-    left
+    block.copy_within(at..n, 0);
+    n - at
 }
 
 // The number behind END: 0 where nothing is left, and else 17.
 pub fn end_number(left: &[u8]) -> u64
     ensures { result ≡ end_number left.now }
 {
-    if left.len() == 0 {
-        return 0;
+    if left.is_empty() {
+        0
+    } else {
+        u64::from(Refusal::BadRecord)
     }
-    refusal_number(Refusal::BadRecord)
 }

@@ -3,34 +3,45 @@ use Prim.Native.Nat.{ℕ, zero, suc, ◌≤◌, ◌<◌}
 use mathlib.Core.Path.{◌≡◌, refl, sym, ap, ◌∙◌}
 use mathlib.Core.Bool.{Bool, true, false, and-eq-true_iff, false≢true}
 use mathlib.Core.List.{List, [], ◌∷◌, ◌++◌}
-use mathlib.Core.Logic.{inl, inr}
 use native.Mathlib.Omega.{arith}
 use lib.Dec.{eqb, leb, ltb}
 use lib.ListN.{length, drop, length-append}
 use lib.Seq.{drop-append-le}
 use borrow.Author.Tests.{leb-true, eqb-true, ltb-true, ltb-false, le-leb, eq-eqb}
-use Rattle.script_records.specs.Records.{record_size, two_at, marked_in}
+use Rattle.std.specs.Prelude.{Result, Ok, Err}
+use Rattle.script_records.specs.Records.{kind_of, size_by, record_size, two_at, next_by, marked_in}
+use Rattle.script_records.specs.declared.Kind.{Kind}
+use Rattle.script_records.specs.declared.UnknownMark.{UnknownMark}
 use Rattle.script_records.specs.declared.Next.{Next}
 use Rattle.script_records.specs.declared.Next.TheVariants as next
-use Rattle.script_records.proofs.KindLaws.{Kind, kind-of, same_bytes}
+use Rattle.script_records.proofs.KindLaws.{same_bytes, next-stays, more-than-letters}
 use Rattle.script_bytes.specs.Bytes.{size_in, next_in, is_record, unknown_mark, none, behind, records_in}
 use Rattle.script_bytes.specs.Blocks.{InBlocks}
 use Rattle.script_bytes.proofs.HeadLaws.{wanted, by-letters, nothing, uncut, lettered, whole}
 use Rattle.script_bytes.proofs.ListLaws.{shorter, first, no_more}
 
--- what letters say: the same when more bytes come; no record where their size is 2, and nowhere else
-module _ (n : ℕ) (marked : List ℕ → Next) where
-  same_by : Kind n marked → (a b : List ℕ) → n ≤ length a → marked (a ++ b) ≡ marked a
-  same_by (inl k) a b h = k.is (a ++ b) ∙ (ap next.Record (k.stays a b h) ∙ sym (k.is a))
-  same_by (inr u) a b h = u.is (a ++ b) ∙ sym (u.is a)
+-- what letters say: no record where their size is 2, and nowhere else
+no_record : (k : Result Kind UnknownMark) (b : List ℕ) → size_by k ≡ 2 → next_by k b ≡ next.Cut
+no_record (Ok k) b h = absurd (omega (arith, more-than-letters k))
+no_record (Err e) b h = refl
 
-  unknown-by : Kind n marked → (b : List ℕ) → n ≡ 2 → marked b ≡ next.Cut
-  unknown-by (inl k) b h = absurd (omega (arith, k.least))
-  unknown-by (inr u) b h = u.is b
+two_by : (k : Result Kind UnknownMark) (b : List ℕ) → is_record (next_by k b) ≡ false → size_by k ≡ 2
+two_by (Ok k) b h = absurd (false≢true (sym h))
+two_by (Err e) b h = refl
 
-  known_by : Kind n marked → (b : List ℕ) → is_record (marked b) ≡ false → n ≡ 2
-  known_by (inl k) b h = absurd (false≢true (sym h ∙ ap is_record (k.is b)))
-  known_by (inr u) b h = u.two
+module _ (letters : ℕ) where
+  -- the same when more bytes come
+  same-marked : (a b : List ℕ) → record_size letters ≤ length a → marked_in letters (a ++ b) ≡ marked_in letters a
+  unfolding record_size marked_in
+  same-marked a b h = next-stays (kind_of letters) a b h
+
+  marked-cut : (b : List ℕ) → record_size letters ≡ 2 → marked_in letters b ≡ next.Cut
+  unfolding record_size marked_in
+  marked-cut b h = no_record (kind_of letters) b h
+
+  size-two : (b : List ℕ) → is_record (marked_in letters b) ≡ false → record_size letters ≡ 2
+  unfolding record_size marked_in
+  size-two b h = two_by (kind_of letters) b h
 
 module _ (a b : List ℕ) where
   -- the letters stay when more bytes come
@@ -51,7 +62,7 @@ module _ (a b : List ℕ) where
       let long : size_in (a ++ b) ≤ length (a ++ b) = rw (same_size two, length-append a b) (omega arith) in
       uncut (a ++ b) long
       ∙ (ap (λ l. marked_in l (a ++ b)) (same-letters two)
-      ∙ (same_by (record_size l) (marked_in l) (kind-of l) a b sized ∙ sym (uncut a h)))
+      ∙ (same-marked l a b sized ∙ sym (uncut a h)))
 
 -- the records of a and then b, by what a leaves
 abbrev Joins : (a b : List ℕ) → Type 0
@@ -80,7 +91,7 @@ stopped a b h =
     let size : size_in a ≡ 2 = eqb-true (size_in a) 2 tests.1 in
     let here : size_in a ≤ length a = omega arith in
     let l = two_at a 0 in
-    let cut = unknown-by (record_size l) (marked_in l) (kind-of l) a (sym (by-letters a two) ∙ size) in
+    let cut = marked-cut l a (sym (by-letters a two) ∙ size) in
     no_more (a ++ b) (ap is_record (same_next a b here ∙ (uncut a here ∙ cut)))
 
 -- bytes without a record at their head, and without an unknown mark: fewer than 7
@@ -91,7 +102,7 @@ short-by b false e h k =
     let here = ltb-false (length b) (size_in b) e in
     let two = lettered b here in
     let l = two_at b 0 in
-    let size = by-letters b two ∙ known_by (record_size l) (marked_in l) (kind-of l) b (rw (uncut b here) at h) in
+    let size = by-letters b two ∙ size-two l b (rw (uncut b here) at h) in
     let mark : unknown_mark b ≡ true = rw (le-leb 2 (length b) two, eq-eqb (size_in b) 2 size) refl in
     absurd (false≢true (sym k ∙ mark))
 

@@ -1,11 +1,17 @@
 -- What stands at the head of some bytes, and the records that they hold. A cut record and an unknown mark are 17; where
 -- nothing is left, the script ends.
 use Rattle.std.specs.Prelude.{ℕ, zero, suc, ◌-◌, Bool, true, false, cond, ◌&&◌, eqb, leb, ltb}
-use Rattle.std.specs.Prelude.{List, [], ◌∷◌, ◌++◌, length, drop}
-use Rattle.script_records.specs.Records.{record_size, two_at, marked_in}
+use Rattle.std.specs.Prelude.{List, [], ◌∷◌, ◌++◌, length, drop, Option, None}
+use Rattle.std.specs.Result.{result_ok}
+use Rattle.script_records.specs.Records.{kind_of, record_size, two_at, marked_in}
+use Rattle.script_records.specs.declared.Kind.{Kind}
 use Rattle.script_records.specs.declared.Record.{Record}
 use Rattle.script_records.specs.declared.Next.{Next}
 use Rattle.script_records.specs.declared.Next.TheVariants as next
+
+-- the kind of the record whose letters stand at the head of some bytes
+unfoldable pub kind_in : List ℕ → Option Kind
+kind_in b = cond (ltb (length b) 2) None (result_ok (kind_of (two_at b 0)))
 
 -- how many bytes the head of some bytes wants: two letters, and then as many as they say
 unfoldable pub size_in : List ℕ → ℕ

@@ -2,50 +2,53 @@
 #![tactic(auto)]
 
 ghost use Rattle.std.specs.Prelude.{◌≡◌, take, drop};
-ghost use Rattle.script_bytes.specs.Bytes.{size_in, next_in, next_at, unknown_mark};
+ghost use Rattle.script_bytes.specs.Bytes.{kind_in, size_in, next_in, next_at, unknown_mark};
 
-use script_records::{Next, marked, size, two};
+use script_records::{Kind, Next};
+
+// The kind of the record whose letters stand at the head of some bytes.
+fn kind_in(b: &[u8]) -> Option<Kind>
+    ensures { result ≡ kind_in b.now }
+{
+    let [first, second, ..] = *b else {
+        return None;
+    };
+    Kind::try_from([first, second]).ok()
+}
 
 // How many bytes the head of some bytes wants: two letters, and then as many as they say.
 fn size_in(b: &[u8]) -> usize
     ensures { result ≡ size_in b.now }
 {
-    if b.len() < 2 {
-        return 2;
-    }
-    size(two(b[0], b[1]))
+    kind_in(b).map_or(2, Kind::size)
 }
 
 // What stands at the head of some bytes.
 pub fn next_in(b: &[u8]) -> Next
     ensures { result ≡ next_in b.now }
 {
-    if b.len() == 0 {
-        return Next::End;
+    let Some(kind) = kind_in(b) else {
+        return if b.is_empty() { Next::End } else { Next::Cut };
+    };
+    if kind.size() <= b.len() {
+        Next::Record(kind.record_in(b))
+    } else {
+        Next::Cut
     }
-    if b.len() < size_in(b) {
-        return Next::Cut;
-    }
-    marked(two(b[0], b[1]), b)
 }
 
 // The first n bytes, or all where there are fewer.
 pub fn head(b: &[u8], n: usize) -> &[u8]
     ensures { result.now ≡ take n b.now }
 {
-    if n <= b.len() { &b[..n] } else { b }
+    b.get(..n).unwrap_or(b)
 }
 
 // The bytes from `at` on.
 pub fn tail(b: &[u8], at: usize) -> &[u8]
     ensures { result.now ≡ drop at b.now }
 {
-    if at <= b.len() {
-        &b[at..]
-    } else {
-        let e = b.len();
-        &b[e..]
-    }
+    b.get(at..).unwrap_or(&[])
 }
 
 // What stands at a position.
@@ -66,5 +69,5 @@ pub fn size_at(b: &[u8], at: usize) -> usize
 pub fn unknown_mark(b: &[u8]) -> bool
     ensures { result ≡ unknown_mark b.now }
 {
-    (2 <= b.len()) & (size_in(b) == 2)
+    2 <= b.len() && kind_in(b).is_none()
 }

@@ -2,18 +2,22 @@
 use Prim.Native.Nat.{ℕ, suc, ◌+◌, ◌-◌, ◌<◌, ◌≤◌}
 use Prim.Native.Char.{code}
 use mathlib.Core.Path.{◌≡◌, refl, sym, ap, ◌∙◌}
-use mathlib.Core.Bool.{Bool, true, false}
+use mathlib.Core.Bool.{true}
 use mathlib.Core.List.{List, [], ◌∷◌, ◌++◌, map, append_assoc, append-nil, map-append}
 use native.Mathlib.Omega.{arith}
 use native.Mathlib.Numerals.{add-one}
 use lib.IntN.{ℤ, pos, negsuc}
+use lib.Signed.{lt_z}
+use borrow.Author.Tests.{ltb-true}
+use Rattle.std.specs.Prelude.{unsigned_abs}
 use lib.ListN.{length, get_or, drop}
-use borrow.Author.Tests.{lt-ltb, le-ltb}
 use Rattle.lta_spec.specs.Words.{part}
-use Rattle.lta_spec.specs.Bytes.{word_range, words_of, signed}
+use Rattle.lta_spec.specs.Bytes.{words_of, signed}
 use Rattle.lta_spec.specs.Decimal.{space, line_feed, decimal}
 use Rattle.lta_spec.specs.Frame.{head_words}
 use Rattle.lta_spec.proofs.WordLaws.{part-next, part-zero, part-add, splice-nil}
+use Rattle.script_lines.specs.declared.Printed.{Printed}
+use Rattle.script_lines.specs.declared.Printed.TheVariants.{Plain, Signed}
 use Rattle.script_lines.specs.Lines.{field, spaced, line, word_field, frame_fields}
 use Rattle.script_lines.proofs.PutLaws.{
   Room,
@@ -32,19 +36,10 @@ pub one_field : (n : ℕ) → (space ∷ []) ++ decimal n ≡ spaced (pos n ∷ 
 unfolding spaced field
 one_field n = ap (λ l. space ∷ l) (sym (append-nil (decimal n)))
 
-below : (n : ℕ) → (space ∷ code "-" ∷ []) ++ decimal (suc n) ≡ spaced (negsuc n ∷ [])
+pub below : (z : ℤ) → lt_z z (pos 0) ≡ true → (space ∷ code "-" ∷ []) ++ decimal (unsigned_abs z) ≡ spaced (z ∷ [])
 unfolding spaced field
-below n = ap (λ l. space ∷ code "-" ∷ l) (sym (append-nil (decimal (suc n))))
-
--- a word as a signed number, by its size
-pub not-below : (w : ℕ) → w < 2147483648 → spaced (pos w ∷ []) ≡ spaced (signed w ∷ [])
-not-below w h = rw (lt-ltb w 2147483648 h) refl
-
-pub signed_below : (w : ℕ) → 2147483648 ≤ w → w < word_range
-    → (space ∷ code "-" ∷ []) ++ decimal (word_range - w) ≡ spaced (signed w ∷ [])
-signed_below w h k =
-    let e : word_range - w ≡ suc (word_range - suc w) = omega arith in
-    rw (le-ltb w 2147483648 h, e) (below (word_range - suc w))
+below (pos n) e = absurd (omega (arith, ltb-true n 0 e))
+below (negsuc n) e = ap (λ l. space ∷ code "-" ∷ l) (sym (append-nil (decimal (suc n))))
 
 -- fields in two parts
 pub spaced-append : (ys zs : List ℤ) → spaced ys ++ spaced zs ≡ spaced (ys ++ zs)
@@ -55,47 +50,47 @@ spaced-append (y ∷ ys) zs =
     ∙ ap (λ l. (space ∷ field y) ++ l) (spaced-append ys zs)
 
 -- the words from k on: one more, and the first i of n
-module _ (lag : Bool) (ws : List ℕ) (k : ℕ) where
+module _ (printed : Printed) (ws : List ℕ) (k : ℕ) where
   abbrev pub words : (n : ℕ) → List ℕ
-  words n = spaced (map (word_field lag) (part k n ws))
+  words n = spaced (map (word_field printed) (part k n ws))
 
   one_more : (i : ℕ) → k + i < length ws
-      → words i ++ spaced (word_field lag (get_or ws (k + i) 0) ∷ []) ≡ words (suc i)
+      → words i ++ spaced (word_field printed (get_or ws (k + i) 0) ∷ []) ≡ words (suc i)
   one_more i h =
-      spaced-append (map (word_field lag) (part k i ws)) (word_field lag (get_or ws (k + i) 0) ∷ [])
+      spaced-append (map (word_field printed) (part k i ws)) (word_field printed (get_or ws (k + i) 0) ∷ [])
       ∙ ap spaced
-      (sym (map-append (word_field lag) (part k i ws) (get_or ws (k + i) 0 ∷ []))
-      ∙ ap (map (word_field lag)) (sym (part-next ws k i h)))
+      (sym (map-append (word_field printed) (part k i ws) (get_or ws (k + i) 0 ∷ []))
+      ∙ ap (map (word_field printed)) (sym (part-next ws k i h)))
 
-  first-words : (i n : ℕ) → i ≤ n → words i ++ spaced (map (word_field lag) (part (k + i) (n - i) ws)) ≡ words n
+  first-words : (i n : ℕ) → i ≤ n → words i ++ spaced (map (word_field printed) (part (k + i) (n - i) ws)) ≡ words n
   first-words i n h =
       let e : i + (n - i) ≡ n = omega arith in
-      spaced-append (map (word_field lag) (part k i ws)) (map (word_field lag) (part (k + i) (n - i) ws))
+      spaced-append (map (word_field printed) (part k i ws)) (map (word_field printed) (part (k + i) (n - i) ws))
       ∙ ap spaced
-      (sym (map-append (word_field lag) (part k i ws) (part (k + i) (n - i) ws))
-      ∙ ap (map (word_field lag)) (sym (part-add ws k i (n - i)) ∙ ap (λ n. part k n ws) e))
+      (sym (map-append (word_field printed) (part k i ws) (part (k + i) (n - i) ws))
+      ∙ ap (map (word_field printed)) (sym (part-add ws k i (n - i)) ∙ ap (λ n. part k n ws) e))
 
   -- a loop that puts them one after the other
   pub no_words : (l : List ℕ) (at : ℕ) → Put l at (words 0) at l
   unfolding spaced
   no_words l at =
-      same-put l at (ap (λ ws. spaced (map (word_field lag) ws)) (sym (part-zero ws k)))
-      (omega arith, sym (splice-nil l at))
+      same-put l at (ap (λ ws. spaced (map (word_field printed) ws)) (sym (part-zero ws k)))
+      (record { behind = omega arith; leaves = sym (splice-nil l at) })
 
   module _ (l : List ℕ) (at : ℕ) {p : ℕ} {m : List ℕ} (i : ℕ) (put : Put l at (words i) p m) where
     pub next-room : (n : ℕ) → i < n → k + n ≤ length ws → Room l at (words n)
-        → Room m p (spaced (word_field lag (get_or ws (k + i) 0) ∷ []))
+        → Room m p (spaced (word_field printed (get_or ws (k + i) 0) ∷ []))
     next-room n h inside room =
-        let more = spaced (map (word_field lag) (part (k + suc i) (n - suc i) ws)) in
+        let more = spaced (map (word_field printed) (part (k + suc i) (n - suc i) ws)) in
         let here = same-room l at (sym (first-words (suc i) n (omega arith))) room in
-        second-room l at (words i) (spaced (word_field lag (get_or ws (k + i) 0) ∷ [])) put
+        second-room l at (words i) (spaced (word_field printed (get_or ws (k + i) 0) ∷ [])) put
         (same-room l at (sym (one_more i (omega arith))) (first-room l at (words (suc i)) more here))
 
     pub next-put : {q : ℕ} {n : List ℕ} → k + i < length ws
-        → Put m p (spaced (word_field lag (get_or ws (k + i) 0) ∷ [])) q n → Put l at (words (i + 1)) q n
+        → Put m p (spaced (word_field printed (get_or ws (k + i) 0) ∷ [])) q n → Put l at (words (i + 1)) q n
     next-put inside further =
         same-put l at (one_more i inside ∙ ap words (sym (add-one i)))
-        (both l at (words i) (spaced (word_field lag (get_or ws (k + i) 0) ∷ [])) put further)
+        (both l at (words i) (spaced (word_field printed (get_or ws (k + i) 0) ∷ [])) put further)
 
 -- the three parts of a line: letters, fields, line feed
 abbrev pub LineRooms : (l : List ℕ) (at : ℕ) (letters : List ℕ) (zs : List ℤ) → Type 0
@@ -115,7 +110,7 @@ module _ (l : List ℕ) (at : ℕ) (letters : List ℕ) (zs : List ℤ) where
 pub frame-parts : (kind : ℕ) (out : List ℕ)
     → let ws = words_of (drop 2 out) in
     let h = head_words kind in
-    words false ws 0 h ++ words true ws h 4 ++ words false ws (h + 4) 1 ≡ spaced (frame_fields kind out)
+    words Plain ws 0 h ++ words Signed ws h 4 ++ words Plain ws (h + 4) 1 ≡ spaced (frame_fields kind out)
 unfolding frame_fields
 frame-parts kind out =
     let ws = words_of (drop 2 out) in

@@ -17,30 +17,25 @@ use Rattle.lta_spec.specs.Frame.{accumulated, speed_frame, head_words}
 use Rattle.lta_spec.specs.Call.{speed}
 use Rattle.lta_spec.proofs.DecimalLaws.{few-digits}
 use Rattle.lta_spec.proofs.ByteLaws.{Below, below-drop, below-part, words-below}
-use Rattle.script_records.specs.Records.{
-  tick_mark,
-  dump_mark,
-  integrate_mark,
-  emit_mark,
-  record_size,
-  two_at,
-  tick_in,
-  dump_in,
-  integrate_in,
-  emit_in,
-  marked_in,
-}
+use Rattle.std.specs.Prelude.{Some, None, Result, Ok, Err}
+use Rattle.frame_header.specs.declared.kind.FrameKind.TheVariants.{Speed}
+use Rattle.script_records.specs.Records.{kind_of, size_of_kind, size_by, record_size, two_at, record_in, next_by, marked_in}
+use Rattle.script_records.specs.declared.Kind.{Kind}
+use Rattle.script_records.specs.declared.Kind.TheVariants.{Tick, Dump, Integrate, Emit}
+use Rattle.script_records.specs.declared.UnknownMark.{UnknownMark}
 use Rattle.script_records.specs.declared.Record.{Record}
 use Rattle.script_records.specs.declared.Record.TheVariants as kind
 use Rattle.script_records.specs.declared.Next.TheVariants as next
 use Rattle.script_bytes.specs.Bytes.{size_in, next_in, is_record}
 use Rattle.script_bytes.proofs.HeadLaws.{by-letters, uncut, lettered, whole}
+use Rattle.script_lines.specs.declared.Printed.TheVariants.{Plain, Signed}
 use Rattle.script_lines.specs.Lines.{
   field,
   spaced,
   line,
   letters_of,
   frame_fields,
+  fields_by,
   value_fields,
   end_line,
   most_bytes,
@@ -113,9 +108,9 @@ frame-most kind out b =
     let ws = words_of (drop 2 out) in
     let below = words-below (drop 2 out) (below-drop 256 2 out b) in
     let h = head_words kind in
-    let head = words false ws 0 h in
-    let lags = words true ws h 4 in
-    let last = words false ws (h + 4) 1 in
+    let head = words Plain ws 0 h in
+    let lags = words Signed ws h 4 in
+    let last = words Plain ws (h + 4) 1 in
     rw (← frame-parts kind out)
     (omega (
       arith,
@@ -135,14 +130,14 @@ length-line letters zs =
     omega (arith, length-append (letters ++ spaced zs) (line_feed ∷ []), length-append letters (spaced zs))
 
 two-letters : (r : Record) → length (letters_of r) ≡ 2
-two-letters (kind.Tick x y valid) = refl
+two-letters (kind.Tick t) = refl
 two-letters (kind.Dump d) = refl
 two-letters (kind.Integrate cell) = refl
 two-letters (kind.Emit e) = refl
 
 -- no line has fewer than 26 bytes of room
 room-least : (r : Record) → 26 ≤ most_bytes r
-room-least (kind.Tick x y valid) = omega arith
+room-least (kind.Tick t) = omega arith
 room-least (kind.Dump d) = omega arith
 room-least (kind.Integrate cell) = omega arith
 room-least (kind.Emit e) = omega arith
@@ -163,12 +158,11 @@ refusal-fits r k h =
 -- 0 and an answer
 value-fits : (r : Record) (k : ℕ) (out : List ℕ) → k < long_range → Below 256 out
     → length (spaced (value_fields r k out)) + 5 ≤ most_bytes r
-value-fits (kind.Tick x y valid) k out h b = omega (arith, length-spaced (pos k) [], length_none, long-field k h)
+value-fits (kind.Tick t) k out h b = omega (arith, length-spaced (pos k) [], length_none, long-field k h)
 value-fits (kind.Dump d) k out h b = by-test (eqb d.command speed)
   where
     by-test : (s : Bool)
-        → let sent = cond s speed_frame 0 in
-        length (spaced (cond (eqb sent 0) (pos k ∷ []) (frame_fields sent out))) + 5 ≤ 152
+        → length (spaced (fields_by (cond s (Some Speed) None) k out)) + 5 ≤ 152
     by-test true = omega (arith, frame-most speed_frame out b)
     by-test false = omega (arith, length-spaced (pos k) [], length_none, long-field k h)
 value-fits (kind.Integrate cell) k out h b = omega (arith, length-spaced (pos k) [], length_none, long-field k h)
@@ -193,22 +187,21 @@ end-most n h =
     omega (arith, length-line letters (pos n ∷ []), length-spaced (pos n) [], length_none, short-field n h)
 
 -- the bytes of a record with its letters, and the room for its line
-room_by : (tick dump integrate emit : Bool) (b : List ℕ) (r : Record)
-    → cond tick (next.Record (tick_in b))
-    (cond dump (next.Record (dump_in b))
-    (cond integrate (next.Record (integrate_in b)) (cond emit (next.Record (emit_in b)) next.Cut)))
-    ≡ next.Record r
-    → most_bytes r ≤ 24 * cond tick 5 (cond dump 7 (cond integrate 3 (cond emit 6 2)))
-room_by true dump integrate emit b r e = let same : tick_in b ≡ r = cc in rw (← same) (omega arith)
-room_by false true integrate emit b r e = let same : dump_in b ≡ r = cc in rw (← same) (omega arith)
-room_by false false true emit b r e = let same : integrate_in b ≡ r = cc in rw (← same) (omega arith)
-room_by false false false true b r e = let same : emit_in b ≡ r = cc in rw (← same) (omega arith)
-room_by false false false false b r e = absurd (false≢true (ap is_record e))
+kind-room : (k : Kind) (b : List ℕ) → most_bytes (record_in k b) ≤ 24 * size_of_kind k
+kind-room Tick b = omega arith
+kind-room Dump b = omega arith
+kind-room Integrate b = omega arith
+kind-room Emit b = omega arith
+
+room_by : (k : Result Kind UnknownMark) (b : List ℕ) (r : Record) → next_by k b ≡ next.Record r
+    → most_bytes r ≤ 24 * size_by k
+room_by (Ok k) b r e = let same : record_in k b ≡ r = cc in rw (← same) (kind-room k b)
+room_by (Err u) b r e = absurd (false≢true (ap is_record e))
 
 marked-room : (letters : ℕ) (b : List ℕ) (r : Record) → marked_in letters b ≡ next.Record r
     → most_bytes r ≤ 24 * record_size letters
 unfolding marked_in record_size
-marked-room l b r e = room_by (eqb l tick_mark) (eqb l dump_mark) (eqb l integrate_mark) (eqb l emit_mark) b r e
+marked-room l b r e = room_by (kind_of l) b r e
 
 pub line-room : (b : List ℕ) (r : Record) → next_in b ≡ next.Record r → most_bytes r ≤ 24 * size_in b
 line-room b r e =

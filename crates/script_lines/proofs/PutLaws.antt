@@ -13,7 +13,7 @@ Room l at bs = at + length bs ≤ length l
 
 -- bytes were put from `at` on: the place behind them, and the buffer
 abbrev pub Put : (l : List ℕ) (at : ℕ) (bs : List ℕ) (end : ℕ) (after : List ℕ) → Type 0
-Put l at bs end after = (end ≡ at + length bs) × (after ≡ splice l at bs)
+Put l at bs end after = record { behind : end ≡ at + length bs; leaves : after ≡ splice l at bs }
 
 -- the same bytes by another name
 pub same-room : (l : List ℕ) (at : ℕ) {bs cs : List ℕ} → bs ≡ cs → Room l at bs → Room l at cs
@@ -26,17 +26,21 @@ same-put l at e h = rw (← e) h
 -- a buffer keeps its length
 pub put-length : (l : List ℕ) (at : ℕ) (bs : List ℕ) {end : ℕ} {after : List ℕ} → Put l at bs end after
     → length after ≡ length l
-put-length l at bs h = ap length h.1 ∙ length-splice l at bs
+put-length l at bs h = ap length h.leaves ∙ length-splice l at bs
 
 module _ (l : List ℕ) (at : ℕ) (xs ys : List ℕ) where
   pub first-room : Room l at (xs ++ ys) → Room l at xs
   first-room h = omega (arith, length-append xs ys)
 
   pub second-room : {end : ℕ} {after : List ℕ} → Put l at xs end after → Room l at (xs ++ ys) → Room after end ys
-  second-room h room = omega (arith, length-append xs ys, put-length l at xs h, h.0)
+  second-room h room = omega (arith, length-append xs ys, put-length l at xs h, h.behind)
 
   pub both : {p q : ℕ} {m n : List ℕ} → Put l at xs p m → Put m p ys q n → Put l at (xs ++ ys) q n
-  both h k = (omega (arith, h.0, k.0, length-append xs ys), splice-behind l at xs ys h.1 h.0 k.1)
+  both h k =
+      record {
+        behind = omega (arith, h.behind, k.behind, length-append xs ys);
+        leaves = splice-behind l at xs ys h.leaves h.behind k.leaves;
+      }
 
 -- room for three runs of bytes
 pub record Rooms (l : List ℕ) (at : ℕ) (xs ys zs : List ℕ) : Type 0 where

@@ -4,19 +4,27 @@
 
 ghost use Rattle.std.specs.Prelude.{◌≡◌, [], ◌∷◌, ◌+◌, ◌*◌, ◌≤◌, pos, length};
 ghost use Rattle.lta_spec.specs.Words.{splice};
-ghost use Rattle.lta_spec.specs.Bytes.{signed};
-ghost use Rattle.host_answer.specs.Numbered.{numbered_as};
+ghost use Rattle.lta_spec.specs.Answer.{numbered_as};
+ghost use Rattle.frame_header.specs.Kind.{kind_number};
 ghost use Rattle.script_lines.specs.Lines.{spaced, line, letters_of, word_field, word_fields};
 ghost use Rattle.script_lines.specs.Lines.{frame_fields, sent_kind, value_fields, answer_line, end_line, most_bytes};
 
 use cell_layout::SPEED;
-use frame_header::head_words;
-use frame_word::word_at;
-use host_answer::{Numbered, refusal_number};
-use lta_spec::{ACCUMULATED, SPEED_FRAME};
-use script_bytes::tail;
+use frame_header::FrameKind;
+use frame_word::{number_of, word_at};
+use lta_spec::Refusal;
 use script_records::Record;
 use text::{put_byte, put_bytes, put_number};
+
+// The bytes of the longest frame of the script's run, a speed frame of two lags.
+pub const FRAME: usize = 54;
+
+// How the words of a frame are printed: lags signed, header words and the sum plain.
+#[derive(Clone, Copy)]
+enum Printed {
+    Plain,
+    Signed,
+}
 
 // A space and a number.
 fn put_field(lines: &mut [u8], at: usize, n: u64) -> usize
@@ -24,104 +32,94 @@ fn put_field(lines: &mut [u8], at: usize, n: u64) -> usize
     ensures behind { result ≡ at + length (spaced (pos n ∷ [])) }
     ensures leaves { lines.new ≡ splice lines.old at (spaced (pos n ∷ [])) }
 {
-    let i = put_byte(&mut *lines, at, b' ');
-    put_number(&mut *lines, i, n)
+    let i = put_byte(lines, at, b' ');
+    put_number(lines, i, n)
 }
 
-// A space and a word as a signed number.
-fn put_signed(lines: &mut [u8], at: usize, w: u32) -> usize
-    requires { at + length (spaced (signed w ∷ [])) ≤ length lines.old }
-    ensures behind { result ≡ at + length (spaced (signed w ∷ [])) }
-    ensures leaves { lines.new ≡ splice lines.old at (spaced (signed w ∷ [])) }
+// A space and a signed number.
+fn put_signed(lines: &mut [u8], at: usize, z: i32) -> usize
+    requires { at + length (spaced (z ∷ [])) ≤ length lines.old }
+    ensures behind { result ≡ at + length (spaced (z ∷ [])) }
+    ensures leaves { lines.new ≡ splice lines.old at (spaced (z ∷ [])) }
 {
-    if w < 0x8000_0000 {
-        return put_field(&mut *lines, at, w as u64);
+    let size = u64::from(z.unsigned_abs());
+    if z < 0 {
+        let i = put_bytes(lines, at, b" -");
+        put_number(lines, i, size)
+    } else {
+        put_field(lines, at, size)
     }
-    let i = put_bytes(&mut *lines, at, b" -");
-    put_number(&mut *lines, i, 0x1_0000_0000 - w as u64)
 }
 
-// A space and a word: a lag is signed.
-fn put_word(lines: &mut [u8], at: usize, w: u32, lag: bool) -> usize
-    requires { at + length (spaced (word_field lag w ∷ [])) ≤ length lines.old }
-    ensures behind { result ≡ at + length (spaced (word_field lag w ∷ [])) }
-    ensures leaves { lines.new ≡ splice lines.old at (spaced (word_field lag w ∷ [])) }
+// A space and a word.
+fn put_word(lines: &mut [u8], at: usize, w: u32, printed: Printed) -> usize
+    requires { at + length (spaced (word_field printed w ∷ [])) ≤ length lines.old }
+    ensures behind { result ≡ at + length (spaced (word_field printed w ∷ [])) }
+    ensures leaves { lines.new ≡ splice lines.old at (spaced (word_field printed w ∷ [])) }
 {
-    if lag {
-        return put_signed(&mut *lines, at, w);
+    match printed {
+        Printed::Plain => put_field(lines, at, u64::from(w)),
+        Printed::Signed => put_signed(lines, at, number_of(w)),
     }
-    put_field(&mut *lines, at, w as u64)
 }
 
 // The n words from word k on, each behind a space.
-fn put_words(lines: &mut [u8], at: usize, body: &[u8], k: usize, n: usize, lag: bool) -> usize
+fn put_words(
+    lines: &mut [u8],
+    at: usize,
+    body: &[u8],
+    k: usize,
+    n: usize,
+    printed: Printed,
+) -> usize
     requires inside { 4 * (k + n) ≤ length body.now }
-    requires room { at + length (spaced (word_fields lag k n body.now)) ≤ length lines.old }
-    ensures behind { result ≡ at + length (spaced (word_fields lag k n body.now)) }
+    requires room { at + length (spaced (word_fields printed k n body.now)) ≤ length lines.old }
+    ensures behind { result ≡ at + length (spaced (word_fields printed k n body.now)) }
     ensures leaves { lines.new
-        ≡ splice lines.old at (spaced (word_fields lag k n body.now)) }
+        ≡ splice lines.old at (spaced (word_fields printed k n body.now)) }
 {
     let mut end = at;
-    let mut i: usize = 0;
-    while i < n {
-        let w = word_at(body, k + i);
-        end = put_word(&mut *lines, end, w, lag);
-        i += 1;
+    for i in 0..n {
+        end = put_word(lines, end, word_at(body, k + i), printed);
     }
     end
 }
 
 // The words of a frame of two lags: header words, lags, sum.
-fn put_frame(lines: &mut [u8], at: usize, kind: u32, frame: &[u8]) -> usize
-    requires whole { length frame.now ≡ 54 }
-    requires room { at + length (spaced (frame_fields kind frame.now)) ≤ length lines.old }
-    ensures behind { result ≡ at + length (spaced (frame_fields kind frame.now)) }
+fn put_frame(lines: &mut [u8], at: usize, kind: FrameKind, frame: &[u8; FRAME]) -> usize
+    requires { at + length (spaced (frame_fields (kind_number kind) frame.now)) ≤ length lines.old }
+    ensures behind { result ≡ at + length (spaced (frame_fields (kind_number kind) frame.now)) }
     ensures leaves { lines.new
-        ≡ splice lines.old at (spaced (frame_fields kind frame.now)) }
+        ≡ splice lines.old at (spaced (frame_fields (kind_number kind) frame.now)) }
 {
-    let body = tail(frame, 2);
-    let head = head_words(kind);
-    let i = put_words(&mut *lines, at, body, 0, head, false);
-    let j = put_words(&mut *lines, i, body, head, 4, true);
-    put_words(&mut *lines, j, body, head + 4, 1, false)
+    let body = &frame[2..];
+    let head = kind.head_words();
+    let i = put_words(lines, at, body, 0, head, Printed::Plain);
+    let j = put_words(lines, i, body, head, 4, Printed::Signed);
+    put_words(lines, j, body, head + 4, 1, Printed::Plain)
 }
 
-// The kind of the frame that a record's call leaves in the buffer where it is accepted, 0 for none.
-fn sent_kind(r: Record) -> u32
+// The kind of the frame that a record's call leaves in the buffer where it is accepted.
+fn sent_kind(r: Record) -> Option<FrameKind>
     ensures { result ≡ sent_kind r }
 {
     match r {
-        Record::Tick(_, _, _) => 0,
-        Record::Dump(d) => if d.command == SPEED { SPEED_FRAME } else { 0 },
-        Record::Integrate(_) => 0,
-        Record::Emit(_) => ACCUMULATED,
+        Record::Dump(d) if d.command == SPEED => Some(FrameKind::Speed),
+        Record::Emit(_) => Some(FrameKind::Accumulated),
+        Record::Tick(_) | Record::Dump(_) | Record::Integrate(_) => None,
     }
 }
 
 // What a record that is accepted prints behind 0.
-fn put_value(lines: &mut [u8], at: usize, r: Record, k: u64, frame: &[u8]) -> usize
-    requires whole { length frame.now ≡ 54 }
-    requires room { at + length (spaced (value_fields r k frame.now)) ≤ length lines.old }
+fn put_value(lines: &mut [u8], at: usize, r: Record, k: u64, frame: &[u8; FRAME]) -> usize
+    requires { at + length (spaced (value_fields r k frame.now)) ≤ length lines.old }
     ensures behind { result ≡ at + length (spaced (value_fields r k frame.now)) }
     ensures leaves { lines.new
         ≡ splice lines.old at (spaced (value_fields r k frame.now)) }
 {
-    let kind = sent_kind(r);
-    if kind == 0 {
-        return put_field(&mut *lines, at, k);
-    }
-    put_frame(&mut *lines, at, kind, frame)
-}
-
-// The two letters of a record.
-fn letters(r: Record) -> [u8; 2]
-    ensures { result ≡ letters_of r }
-{
-    match r {
-        Record::Tick(_, _, _) => [b'T', b'K'],
-        Record::Dump(_) => [b'D', b'P'],
-        Record::Integrate(_) => [b'I', b'N'],
-        Record::Emit(_) => [b'E', b'M'],
+    match sent_kind(r) {
+        Some(kind) => put_frame(lines, at, kind, frame),
+        None => put_field(lines, at, k),
     }
 }
 
@@ -133,30 +131,33 @@ fn put_refusal(lines: &mut [u8], at: usize, r: Record, k: u64) -> usize
         ≡ splice lines.old at (line (letters_of r) (pos k ∷ [])) }
     ensures few { result ≤ at + most_bytes r }
 {
-    let l = letters(r);
-    let i = put_bytes(&mut *lines, at, &l);
-    let j = put_field(&mut *lines, i, k);
-    put_byte(&mut *lines, j, b'\n')
+    let i = put_bytes(lines, at, &r.kind().letters());
+    let j = put_field(lines, i, k);
+    put_byte(lines, j, b'\n')
 }
 
 // The line of a record that is accepted: 0, and what it answers.
-fn put_accepted(lines: &mut [u8], at: usize, r: Record, k: u64, frame: &[u8]) -> usize
-    requires whole { length frame.now ≡ 54 }
-    requires room { at + most_bytes r ≤ length lines.old }
+fn put_accepted(lines: &mut [u8], at: usize, r: Record, k: u64, frame: &[u8; FRAME]) -> usize
+    requires { at + most_bytes r ≤ length lines.old }
     ensures behind { result ≡ at + length (line (letters_of r) (pos 0 ∷ value_fields r k frame.now)) }
     ensures leaves { lines.new
         ≡ splice lines.old at (line (letters_of r) (pos 0 ∷ value_fields r k frame.now)) }
     ensures few { result ≤ at + most_bytes r }
 {
-    let l = letters(r);
-    let i = put_bytes(&mut *lines, at, &l);
-    let j = put_field(&mut *lines, i, 0);
-    let e = put_value(&mut *lines, j, r, k, frame);
-    put_byte(&mut *lines, e, b'\n')
+    let i = put_bytes(lines, at, &r.kind().letters());
+    let j = put_field(lines, i, 0);
+    let e = put_value(lines, j, r, k, frame);
+    put_byte(lines, e, b'\n')
 }
 
 // The line of a record's answer; the frame of an emission or of a speed dump is in the buffer.
-pub fn put_answer(lines: &mut [u8], at: usize, r: Record, t: Numbered, frame: &[u8; 54]) -> usize
+pub fn put_answer(
+    lines: &mut [u8],
+    at: usize,
+    r: Record,
+    t: Result<u64, Refusal>,
+    frame: &[u8; FRAME],
+) -> usize
     requires { at + most_bytes r ≤ length lines.old }
     ensures behind { result ≡ at + length (answer_line r (numbered_as t) frame.now) }
     ensures leaves { lines.new
@@ -164,8 +165,8 @@ pub fn put_answer(lines: &mut [u8], at: usize, r: Record, t: Numbered, frame: &[
     ensures few { result ≤ at + most_bytes r }
 {
     match t {
-        Numbered::Refused(why) => put_refusal(&mut *lines, at, r, refusal_number(why)),
-        Numbered::Number(k) => put_accepted(&mut *lines, at, r, k, frame),
+        Ok(k) => put_accepted(lines, at, r, k, frame),
+        Err(why) => put_refusal(lines, at, r, u64::from(why)),
     }
 }
 
@@ -175,7 +176,7 @@ pub fn put_end(lines: &mut [u8], at: usize, number: u64) -> usize
     ensures behind { result ≡ at + length (end_line number) }
     ensures leaves { lines.new ≡ splice lines.old at (end_line number) }
 {
-    let i = put_bytes(&mut *lines, at, b"END");
-    let j = put_field(&mut *lines, i, number);
-    put_byte(&mut *lines, j, b'\n')
+    let i = put_bytes(lines, at, b"END");
+    let j = put_field(lines, i, number);
+    put_byte(lines, j, b'\n')
 }

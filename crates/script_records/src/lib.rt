@@ -2,10 +2,29 @@
 #![tactic(auto)]
 
 ghost use Rattle.std.specs.Prelude.{◌≡◌, ◌+◌, ◌*◌, ◌≤◌, length};
-ghost use Rattle.script_records.specs.Records.{tick_mark, dump_mark, integrate_mark, emit_mark, record_size};
-ghost use Rattle.script_records.specs.Records.{tick_in, dump_in, integrate_in, emit_in, marked_in};
+ghost use Rattle.script_records.specs.Records.{two_at, kind_of, letters_of_kind, size_of_kind, record_in, record_kind};
 
-#[derive(Clone, Copy)]
+// The kinds of records.
+#[derive(Clone, Copy, Debug, PartialEq, Eq)]
+pub enum Kind {
+    Tick,
+    Dump,
+    Integrate,
+    Emit,
+}
+
+// Two letters that are no record's.
+#[derive(Clone, Copy, Debug, PartialEq, Eq)]
+pub struct UnknownMark;
+
+#[derive(Clone, Copy, Debug, PartialEq, Eq)]
+pub struct Tick {
+    pub x: u8,
+    pub y: u8,
+    pub valid: u8,
+}
+
+#[derive(Clone, Copy, Debug, PartialEq, Eq)]
 pub struct Dump {
     pub cell: u64,
     pub command: u64,
@@ -13,35 +32,28 @@ pub struct Dump {
     pub phase: u64,
 }
 
-#[derive(Clone, Copy)]
+#[derive(Clone, Copy, Debug, PartialEq, Eq)]
 pub struct Emit {
     pub cell: u64,
     pub bank: u64,
     pub bin: u64,
 }
 
-#[derive(Clone, Copy)]
+#[derive(Clone, Copy, Debug, PartialEq, Eq)]
 pub enum Record {
-    // X, Y and validity.
-    Tick(u8, u8, u8),
+    Tick(Tick),
     Dump(Dump),
+    // Of this cell.
     Integrate(u64),
     Emit(Emit),
 }
 
 // What stands next in the input. Cut: an unknown mark, or a record that the input ends in.
-#[derive(Clone, Copy)]
+#[derive(Clone, Copy, Debug, PartialEq, Eq)]
 pub enum Next {
     Record(Record),
     End,
     Cut,
-}
-
-// A byte as a number.
-fn one(b: u8) -> u64
-    ensures { result ≡ b }
-{
-    b as u64
 }
 
 // Two bytes, low first.
@@ -49,84 +61,86 @@ pub fn two(low: u8, high: u8) -> u64
     ensures value { result ≡ low + 256 * high }
     ensures upper_bound { result ≤ 65535 }
 {
-    low as u64 + 256 * high as u64
+    u64::from(u16::from_le_bytes([low, high]))
 }
 
-const TK: u64 = b'T' as u64 + 256 * b'K' as u64;
+impl TryFrom<[u8; 2]> for Kind {
+    type Error = UnknownMark;
 
-const DP: u64 = b'D' as u64 + 256 * b'P' as u64;
+    ghost try_from_gives = { λ letters r. r ≡ kind_of (two_at letters 0) };
 
-const IN: u64 = b'I' as u64 + 256 * b'N' as u64;
-
-const EM: u64 = b'E' as u64 + 256 * b'M' as u64;
-
-// The bytes of a record with these letters, the letters with them; 2 where the letters are unknown.
-pub fn size(letters: u64) -> usize
-    ensures { result ≡ record_size letters }
-{
-    match letters {
-        TK => 5,
-        DP => 7,
-        IN => 3,
-        EM => 6,
-        _ => 2,
+    fn try_from(letters: [u8; 2]) -> Result<Self, UnknownMark> {
+        match &letters {
+            b"TK" => Ok(Kind::Tick),
+            b"DP" => Ok(Kind::Dump),
+            b"IN" => Ok(Kind::Integrate),
+            b"EM" => Ok(Kind::Emit),
+            _ => Err(UnknownMark),
+        }
     }
 }
 
-// The record of each kind, where all its bytes are there.
-fn tick_in(b: &[u8]) -> Record
-    requires { record_size tick_mark ≤ length b.now }
-    ensures { result ≡ tick_in b.now }
-{
-    Record::Tick(b[2], b[3], b[4])
+impl Kind {
+    // The letters of a record.
+    pub fn letters(self) -> [u8; 2]
+        ensures { result ≡ letters_of_kind self }
+    {
+        match self {
+            Kind::Tick => *b"TK",
+            Kind::Dump => *b"DP",
+            Kind::Integrate => *b"IN",
+            Kind::Emit => *b"EM",
+        }
+    }
+
+    // The bytes of a record, its letters with them.
+    pub fn size(self) -> usize
+        ensures { result ≡ size_of_kind self }
+    {
+        match self {
+            Kind::Tick => 5,
+            Kind::Dump => 7,
+            Kind::Integrate => 3,
+            Kind::Emit => 6,
+        }
+    }
+
+    // The record at the head of some bytes, where all its bytes are there.
+    pub fn record_in(self, b: &[u8]) -> Record
+        requires { size_of_kind self ≤ length b.now }
+        ensures { result ≡ record_in self b.now }
+    {
+        match self {
+            Kind::Tick => Record::Tick(Tick {
+                x: b[2],
+                y: b[3],
+                valid: b[4],
+            }),
+            Kind::Dump => Record::Dump(Dump {
+                cell: u64::from(b[2]),
+                command: u64::from(b[3]),
+                bank: u64::from(b[4]),
+                phase: two(b[5], b[6]),
+            }),
+            Kind::Integrate => Record::Integrate(u64::from(b[2])),
+            Kind::Emit => Record::Emit(Emit {
+                cell: u64::from(b[2]),
+                bank: u64::from(b[3]),
+                bin: two(b[4], b[5]),
+            }),
+        }
+    }
 }
 
-fn dump_in(b: &[u8]) -> Record
-    requires { record_size dump_mark ≤ length b.now }
-    ensures { result ≡ dump_in b.now }
-{
-    Record::Dump(Dump {
-        cell: one(b[2]),
-        command: one(b[3]),
-        bank: one(b[4]),
-        phase: two(b[5], b[6]),
-    })
-}
-
-fn integrate_in(b: &[u8]) -> Record
-    requires { record_size integrate_mark ≤ length b.now }
-    ensures { result ≡ integrate_in b.now }
-{
-    Record::Integrate(one(b[2]))
-}
-
-fn emit_in(b: &[u8]) -> Record
-    requires { record_size emit_mark ≤ length b.now }
-    ensures { result ≡ emit_in b.now }
-{
-    Record::Emit(Emit {
-        cell: one(b[2]),
-        bank: one(b[3]),
-        bin: two(b[4], b[5]),
-    })
-}
-
-// The record with these letters at the head of some bytes, or an unknown mark.
-pub fn marked(letters: u64, b: &[u8]) -> Next
-    requires { record_size letters ≤ length b.now }
-    ensures { result ≡ marked_in letters b.now }
-{
-    if letters == TK {
-        return Next::Record(tick_in(b));
+impl Record {
+    pub fn kind(self) -> Kind
+        ensures { result ≡ record_kind self }
+    {
+        match self {
+            Record::Tick(_) => Kind::Tick,
+            Record::Dump(_) => Kind::Dump,
+            Record::Integrate(_) => Kind::Integrate,
+            Record::Emit(_) => Kind::Emit,
+        }
     }
-    if letters == DP {
-        return Next::Record(dump_in(b));
-    }
-    if letters == IN {
-        return Next::Record(integrate_in(b));
-    }
-    if letters == EM {
-        return Next::Record(emit_in(b));
-    }
-    Next::Cut
 }

@@ -1,2 +1,1 @@
--- Laws of tests.
-pub mod Laws
+-- No laws of its own.

@@ -6,31 +6,24 @@ ghost use Rattle.lta_spec.specs.Refusals.{first_of};
 ghost use Rattle.lta_spec.specs.Shape.{lag_count_ok, shape_ok};
 ghost use Rattle.lta_spec.specs.Size.{cell_words, memory_words, host_tests};
 
-use lta_spec::{Refusal, Shape, Verdict};
+use lta_spec::{Refusal, Shape};
 
 // May a cell have n lags?
 pub fn lag_count_ok(n: u64) -> bool
     ensures { result ≡ lag_count_ok n }
 {
-    (2 <= n) & ((n <= 128) & (n % 2 == 0))
+    (2 <= n) & (n <= 128) & (n % 2 == 0)
 }
 
-// Is each value of the shape within its limits? S and M are tested before they are added, since the sum could wrap.
+// Is each value of the shape within its limits? S + M saturates, since the sum of two words could wrap.
 pub fn shape_ok(s: Shape) -> bool
     ensures { result ≡ shape_ok s }
 {
-    if s.start > 256 {
-        return false;
-    }
-    if s.blocks > 256 {
-        return false;
-    }
-    let lags = lag_count_ok(s.lags);
     let cells = (1 <= s.cells) & (s.cells <= 16);
     let bins = (1 <= s.bins) & (s.bins <= 1000);
-    let blocks = (1 <= s.blocks) & (s.start + s.blocks <= 256);
-    let times = (1 <= s.rate) & ((s.rate <= 256000000) & (s.second <= 2147483647));
-    cells & (lags & (bins & (blocks & times)))
+    let blocks = (1 <= s.blocks) & (s.blocks <= 256) & (s.start.saturating_add(s.blocks) <= 256);
+    let times = (1 <= s.rate) & (s.rate <= 256_000_000) & (s.second <= 2_147_483_647);
+    cells & lag_count_ok(s.lags) & bins & blocks & times
 }
 
 // The words of one cell: flag, label, stamps, block counter and picks; Open, Held and the losses; two shift registers;
@@ -52,15 +45,11 @@ pub fn memory_words(s: Shape) -> usize
     2 + cells * cell_words(s.lags as usize, s.bins as usize)
 }
 
-// 1, then 2, or accepted.
-pub fn host_verdict(s: Shape, words: usize) -> Verdict
+// 1, then 2, or none.
+#[tactic(auto, unfolding(lta_spec::specs::Size::host_tests))]
+pub fn host_verdict(s: Shape, words: usize) -> Result<(), Refusal>
     ensures { result ≡ first_of (host_tests s words) }
 {
-    if !shape_ok(s) {
-        return Verdict::Refused(Refusal::BadShape);
-    }
-    if words != memory_words(s) {
-        return Verdict::Refused(Refusal::WrongMemory);
-    }
-    Verdict::Accepted
+    Refusal::BadShape.unless(shape_ok(s))?;
+    Refusal::WrongMemory.unless(words == memory_words(s))
 }

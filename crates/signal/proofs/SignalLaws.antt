@@ -1,7 +1,6 @@
 -- The arithmetic on words of 16 bits is that of document 01 at what registers give, and an invalid entry adds nothing
 -- whatever it meets. Each fact over a range is one computed test.
-use Rattle.std.proofs.Common.{◌≡◌, ℕ, suc, ◌+◌, ◌-◌, ◌*◌, ◌/◌, ◌%◌, ◌^◌, ◌<◌, ◌≤◌, Bool, true, false, cond, not, ◌&&◌, eqb, ℤ, pos, ◌+ℤ◌, ◌*ℤ◌, nat_abs, refl, ap, ◌∙◌, mul-zero, zero-mul, arith}
-use mir.Val.{bool_byte}
+use Rattle.std.proofs.Common.{◌≡◌, ℕ, suc, ◌+◌, ◌-◌, ◌*◌, ◌/◌, ◌%◌, ◌<◌, ◌≤◌, Bool, true, false, cond, not, ◌&&◌, eqb, ℤ, pos, ◌+ℤ◌, ◌*ℤ◌, nat_abs, refl, ap, ◌∙◌, mul-zero, zero-mul, arith}
 use lib.IntN.{sub_ℕ}
 use Rattle.lta_spec.specs.Shape.{peak}
 use Rattle.lta_spec.specs.Tick.{nibble, both_valid, product, weight, turn, in_phase, quadrature}
@@ -19,15 +18,6 @@ use Rattle.signal.specs.Signal.{
   contribution,
 }
 use Rattle.signal.proofs.Below.{le_below, eq_z-below}
-
--- a test as a number
-pub flag_is : (t : Bool) → bool_byte t ≡ cond t 1 0
-flag_is true = refl
-flag_is false = refl
-
--- a difference that wraps
-pub sub_is : (r a b : ℕ) → r < 65536 → a < 65536 → b < 65536 → (r + b) % 2 ^ 16 ≡ a → r ≡ (a + 65536 - b) % 65536
-sub_is r a b hr ha hb e = omega arith
 
 -- a sample of 0 adds nothing but the bias, whatever it meets
 pub zero-x : (p b q t : ℕ) → contribution 0 p b q t ≡ peak

@@ -1,81 +1,87 @@
 // The frame of a bin or of Open, from its row in work memory: ticks, edge and centre count, sums.
-use crate::after::dump_bin;
+use crate::changes::Dump;
 use lta_spec::Shape;
-use std::num::{wrapping_add_u64, wrapping_sub_u64};
-use test_lib_memory::map::{OPEN, OPEN_STAMP, bin, cell_of, number, row};
-use test_lib_rules::call::{Call, DUMP, frame_kind};
-use test_lib_rules::frame_words::{Header, header_word};
-use test_lib_tools::bytes::{PEAK, framed, heads, last, word};
-use test_lib_tools::words::{get, tail, times, word_of};
+use test_lib_memory::cells::{Row, Run};
+use test_lib_memory::map::{Field, Set};
+use test_lib_rules::call::{Bin, Call, Op};
+use test_lib_rules::frame_words::Header;
+use test_lib_tools::bytes::{Kind, PEAK, word};
+use test_lib_tools::words::low_word;
 
-// Word j from DATA_BIAS on, 128 × ticks; from word `first` on a stored sum, less that.
-fn biased_word(set: &[u64], first: u64, j: u64) -> u64 {
-    let bias = times(get(set, 0), PEAK);
-    if j < first {
-        bias
-    } else {
-        wrapping_sub_u64(get(set, wrapping_add_u64(3, j - first)), bias)
+// The words of a frame: header and row.
+#[derive(Clone, Copy)]
+struct Frame<'a> {
+    header: Header,
+    row: Row<'a>,
+}
+
+impl<'a> Frame<'a> {
+    // The frame of a speed dump is of Open, with the bin of the dump's label; that of an emission or a pick is of the
+    // bin.
+    fn of(old: &'a Run<'a>, k: Call, kind: Kind) -> Option<Frame<'a>> {
+        let cell = old.cell(k.cell);
+        let (set, bin, stamp) = match k.op {
+            Op::Dump {
+                command,
+                bank,
+                phase,
+            } => {
+                let bin = Dump {
+                    cell,
+                    command,
+                    bank,
+                    phase,
+                }
+                .bin();
+                (Set::Open, Bin { bank, bin }, cell.field(Field::OpenStamp))
+            }
+            Op::Emit(bin) | Op::Pick(Some(bin)) => {
+                let q = old.layout.number(bin);
+                (Set::Bin(q), bin, cell.stamp(q))
+            }
+            _ => return None,
+        };
+        let header = Header {
+            kind,
+            cell: k.cell,
+            bin,
+            stamp,
+        };
+        Some(Frame {
+            header,
+            row: cell.row(set),
+        })
+    }
+
+    // Word j from DATA_BIAS on, 128 × ticks; behind the header words a stored sum, less that.
+    fn biased_word(self, j: usize) -> u64 {
+        let bias = self.row.ticks().wrapping_mul(PEAK);
+        match j.checked_sub(self.header.kind.heads()) {
+            None => bias,
+            Some(i) => self.row.sum(i as u64).wrapping_sub(bias),
+        }
+    }
+
+    // Word j: ticks and both counts; DATA_BIAS and the lags behind the header.
+    fn word(self, s: Shape, j: usize) -> u64 {
+        match j {
+            2 => self.row.ticks(),
+            3 => self.row.centre(),
+            4 => self.row.edge(),
+            0..=6 => self.header.word(s, j),
+            _ => self.biased_word(j),
+        }
+    }
+
+    // Mark, words and sum; past the frame nothing is written.
+    fn is_right(self, s: Shape, out: &[u8]) -> bool {
+        let kind = self.header.kind;
+        let words = (0..kind.last(s.lags)).all(|j| word(out, j) == low_word(self.word(s, j)));
+        words && kind.is_framed(out, s.lags)
     }
 }
 
-// Word j of the frame: ticks and both counts; DATA_BIAS and the lags behind the header.
-fn due(set: &[u64], s: Shape, h: Header, j: u64) -> u64 {
-    match j {
-        2 => get(set, 0),
-        3 => get(set, 2),
-        4 => get(set, 1),
-        0..=6 => header_word(s, h, j),
-        _ => biased_word(set, heads(h.kind) as u64, j),
-    }
-}
-
-// Are all words but the last as they are due?
-fn words_right(set: &[u64], s: Shape, h: Header, out: &[u8]) -> bool {
-    let end = last(s.lags, h.kind);
-    let mut ok = true;
-    let mut j: usize = 0;
-    while j < end {
-        let right = word(out, j) == word_of(due(set, s, h, j as u64));
-        ok = ok & right;
-        j += 1;
-    }
-    ok
-}
-
-// The frame of a speed dump: of Open, with the bin of the dump's label.
-fn dump_right(s: Shape, cell: &[u64], k: Call, out: &[u8]) -> bool {
-    let h = Header {
-        kind: frame_kind(k),
-        cell: k.cell,
-        bank: k.b,
-        bin: dump_bin(cell, s.blocks, k),
-        stamp: get(cell, OPEN_STAMP),
-    };
-    words_right(tail(cell, row(s.lags, OPEN)), s, h, out)
-}
-
-// The frame of a bin: of its words, which are state, stamp and row.
-fn bin_right(s: Shape, words: &[u64], k: Call, out: &[u8]) -> bool {
-    let h = Header {
-        kind: frame_kind(k),
-        cell: k.cell,
-        bank: k.a,
-        bin: k.b,
-        stamp: get(words, 1),
-    };
-    words_right(tail(words, 2), s, h, out)
-}
-
-fn call_right(s: Shape, old: &[u64], k: Call, out: &[u8]) -> bool {
-    let cell = cell_of(old, s.lags, s.bins, k.cell);
-    if k.kind == DUMP {
-        dump_right(s, cell, k, out)
-    } else {
-        bin_right(s, tail(cell, bin(s.lags, number(s.bins, k.a, k.b))), k, out)
-    }
-}
-
-// Mark, words and sum; past the frame nothing is written.
-pub fn frame_right(s: Shape, old: &[u64], k: Call, out: &[u8]) -> bool {
-    framed(out, s.lags, frame_kind(k)) & call_right(s, old, k, out)
+// Is the buffer the frame that the call writes, of this kind?
+pub fn is_frame<'a>(old: &'a Run<'a>, k: Call, kind: Kind, out: &[u8]) -> bool {
+    Frame::of(old, k, kind).is_some_and(|frame| frame.is_right(old.shape, out))
 }

@@ -1,28 +1,28 @@
 // The page of any words of work memory.
-use lta_spec::Shape;
-use std::num::wrapping_add_u64;
-use test_lib_memory::map::{cell_of, loss, row};
+use test_lib_memory::cells::Run;
+use test_lib_memory::map::Set;
+use test_lib_rules::call::LOSSES;
 use test_lib_rules::page;
-use test_lib_tools::words::{get, put};
 
-// Number i of the lines, of 18 for each cell: word 0, 1 or 2 of a loss's row.
-fn number(mem: &[u64], n: u64, b: u64, i: u64) -> u64 {
-    let at = row(n, loss(i / 3 % 6 + 1));
-    get(cell_of(mem, n, b, i / 18), wrapping_add_u64(at, i % 3))
-}
+// The most lines before the last: six for each of 16 cells.
+const MOST: usize = 96;
 
-fn fill(mem: &[u64], n: u64, b: u64, end: u64, numbers: &mut [u64]) {
-    let mut i: u64 = 0;
-    while i < end {
-        put(&mut *numbers, i, number(mem, n, b, i));
-        i += 1;
+// The numbers of each loss of each cell.
+fn lines<'a>(old: &'a Run<'a>) -> [[u64; 3]; MOST] {
+    let mut lines = [[0; 3]; MOST];
+    for (c, of_cell) in lines.chunks_exact_mut(LOSSES.len()).enumerate() {
+        let cell = old.cell(c as u64);
+        for (line, loss) in of_cell.iter_mut().zip(LOSSES) {
+            let row = cell.row(Set::Lost(loss));
+            *line = [row.ticks(), row.edge(), row.centre()];
+        }
     }
+    lines
 }
 
 // Is the buffer the page, and behind it what stood there before?
-pub fn page_right(s: Shape, old: &[u64], out: &[u8]) -> bool {
-    let end = 3 * (page::lines(s.cells) % 256);
-    let mut numbers = [0u64; 288];
-    fill(old, s.lags, s.bins, end, &mut numbers);
-    page::right(&numbers, s.cells, out)
+pub fn is_page<'a>(old: &'a Run<'a>, out: &[u8]) -> bool {
+    let lines = lines(old);
+    let end = old.shape.cells.saturating_mul(6) as usize;
+    page::is_page(lines.get(..end).unwrap_or(&lines), out)
 }

@@ -1,4 +1,4 @@
-// The calls that are tested, with their answers as numbers.
+// The calls that are tested.
 #![tactic(auto)]
 
 pub mod ask;

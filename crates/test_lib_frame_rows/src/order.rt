@@ -1,10 +1,9 @@
 // Refusal 1, and the orders 1, 13, 14, 15, 16, 18, 12 of reading and normalising and 1, 16, 10 of writing.
-use crate::damage::{MARK, W5, case};
-use test_lib_frames::ask::expect_write;
-use test_lib_frames::build::{BASE, build, build_with, coded, near};
-use test_lib_tools::bytes::{SPEED, heads, length};
-use test_lib_tools::report::{Tally, pick};
-use test_lib_tools::words::{get, word_of};
+use lta_spec::Refusal;
+use test_lib_frames::ask::{Writing, expect_read, expect_write};
+use test_lib_frames::build::{Content, Field, Frame, Near};
+use test_lib_tools::bytes::{Kind, put};
+use test_lib_tools::report::Tally;
 
 // N out of "even, 2 to 128"; if a cast or a sum wrapped, the last four would give the length of a frame of N = 2.
 const BAD: [u64; 13] = [
@@ -23,90 +22,131 @@ const BAD: [u64; 13] = [
     9223372036854775810,
 ];
 
-// The writer's refusal 1: with all else right for N = 2, and with all else wrong (code 7: a kind of 7).
-fn bad_write(t: Tally, kind: u64, n: u64) -> Tally {
-    let mut s = [0u8; 1200];
-    let code = coded(kind, BASE);
-    build(&mut s, 2, code);
-    let a = expect_write(t, n, code, &s, 4, length(2, kind), 1);
-    expect_write(a, n, coded(kind, 7), &s, 3, 0, 1)
+// The base frame with a kind of 7.
+fn of_no_kind(base: Frame) -> Frame {
+    base.with(Content::Changed(Field::Kind, 7))
 }
 
-// "1 for N", of row i of the table: a frame of that many lags, where it fits; a good frame of N = 2, and one that is
-// wrong in all; the writer.
-pub fn bad(t: Tally, kind: u64, i: u64) -> Tally {
-    let n = get(&BAD, i);
-    let code = coded(kind, BASE);
-    let len = length(2, kind);
-    let a = case(t, n, n, code, length(n, kind), 5, W5, 0, 0, MARK, 1);
-    let b = case(a, n, 2, code, len, 5, W5, 0, 0, MARK, 1);
-    let c = case(b, n, 2, code, near(len, 1), 0, 0x2807, 1, 0, 0x4d, 1);
-    bad_write(c, kind, n)
+// The reader's refusal 1: a frame of that many lags, where it fits; a good frame of N = 2; one that is wrong in all.
+fn bad_read(t: &mut Tally, good: Frame, n: u64) {
+    let due = Err(Refusal::BadShape);
+    let of_n = Frame { lags: n, ..good };
+    expect_read(t, n, &of_n.bytes(), of_n.length(), due);
+    expect_read(t, n, &good.bytes(), good.length(), due);
+    let mut s = good.bytes_with(0, 0x2807, 1);
+    put(&mut s, 0, 0x4d);
+    expect_read(t, n, &s, Near::ByteMore.of(good.length()), due);
 }
 
-// One of two numbers: is defect b among those of the mask?
-fn choose(mask: u64, b: u64, yes: u32, no: u32) -> u32 {
-    if (mask >> (b % 64)) % 2 == 1 { yes } else { no }
+// The writer's refusal 1: with all else right for N = 2, and with all else wrong.
+fn bad_write(t: &mut Tally, good: Frame, n: u64) {
+    let s = good.bytes();
+    let due = Err(Refusal::BadShape);
+    let call = Writing {
+        n,
+        ..Writing::of(good)
+    };
+    expect_write(t, call, &s, due);
+    let wrong = Writing {
+        n,
+        frame: of_no_kind(good),
+        count: 3,
+        room: 0,
+    };
+    expect_write(t, wrong, &s, due);
 }
 
-// The first number of reading that applies: defect 0 is N, 1 the length, 2 the mark, 3 the last word, 4 a field, and 5,
-// in speed frames alone, DATA_BIAS.
-fn read_says(mask: u64) -> u64 {
-    let bias = choose(mask, 5, 18, 0);
-    let field = choose(mask, 4, 16, bias);
-    let sum = choose(mask, 3, 15, field);
-    let mark = choose(mask, 2, 14, sum);
-    let length = choose(mask, 1, 13, mark);
-    choose(mask, 0, 1, length) as u64
+// "1 for N", beside a good frame of N = 2.
+pub fn bad_shapes(good: Frame) -> Tally {
+    let mut t = Tally::default();
+    for n in BAD {
+        bad_read(&mut t, good, n);
+        bad_write(&mut t, good, n);
+    }
+    t
 }
 
-// The code of the base frame with its kind, or with a kind of 7 where defect b is among those of the mask.
-fn kind_code(kind: u64, mask: u64, b: u64) -> u64 {
-    coded(kind, choose(mask, b, 7, word_of(kind)) as u64)
+// The number's bits, the lowest first.
+fn flags(i: u8) -> [bool; 6] {
+    [1, 2, 4, 8, 16, 32].map(|bit| i & bit != 0)
 }
 
-// The length of a frame of N = 2, or a byte less where defect b is among those of the mask.
-fn length_but(kind: u64, mask: u64, b: u64) -> usize {
-    near(length(2, kind), choose(mask, b, 6, 0) as u64)
+// The first that applies.
+fn first_of<const K: usize>(tests: [(bool, Refusal); K]) -> Result<(), Refusal> {
+    for (applies, refusal) in tests {
+        refusal.unless(!applies)?;
+    }
+    Ok(())
 }
 
-// Reading with the mask's defects: the first that applies is returned. Each row also normalises lag N, whose 12 comes
-// last. Word 7 of the base frame is DATA_BIAS, or I of lag 0; the defect is the DATA_BIAS of "A speed frame written
-// before".
-pub fn reading(t: Tally, kind: u64, mask: u64) -> Tally {
-    let n = choose(mask, 0, 3, 2) as u64;
-    let code = kind_code(kind, mask, 4);
-    let len = length_but(kind, mask, 1);
-    let w = choose(mask, 5, 98000, word_of(pick(kind == SPEED, 128000, 1)));
-    let add = choose(mask, 3, 1, 0);
-    let mark = (choose(mask, 2, 0x4d, 0x4c) % 256) as u8;
-    case(t, n, 2, code, len, 7, w, add, 0, mark, read_says(mask))
+// A row: a frame of N = 2 is read, where some of these are wrong: its N, its length, the mark, the last word, a field,
+// and in speed frames alone DATA_BIAS. The row also normalises lag N, whose 12 comes last. Word 7 of the base frame is
+// DATA_BIAS, or I of lag 0; the wrong one is the DATA_BIAS of "A speed frame written before".
+fn expect_damaged(t: &mut Tally, good: Frame, defects: [bool; 6]) {
+    let [lags, length, mark, sum, field, bias] = defects;
+    let due = first_of([
+        (lags, Refusal::BadShape),
+        (length, Refusal::WrongLength),
+        (mark, Refusal::WrongMark),
+        (sum, Refusal::WrongSum),
+        (field, Refusal::BadField),
+        (bias, Refusal::WrongBias),
+    ]);
+    let word = match (good.kind, bias) {
+        (_, true) => 98000,
+        (Kind::Speed, false) => 128000,
+        (Kind::Binned, false) => 1,
+    };
+    let frame = if field { of_no_kind(good) } else { good };
+    let mut s = frame.bytes_with(7, word, u32::from(sum));
+    if mark {
+        put(&mut s, 0, 0x4d);
+    }
+    let near = if length { Near::ByteLess } else { Near::Right };
+    let n = if lags { 3 } else { 2 };
+    expect_read(t, n, &s, near.of(good.length()), due);
 }
 
-// The first number of writing that applies: defect 0 is N; 1, 2 and 3 a field, a lag and their count; 4 the buffer.
-fn write_says(kind: u64, mask: u64) -> u64 {
-    let room = choose(mask, 4, 10, word_of(length(2, kind) as u64));
-    let count = choose(mask, 3, 16, room);
-    let lag = choose(mask, 2, 16, count);
-    let field = choose(mask, 1, 16, lag);
-    choose(mask, 0, 1, field) as u64
+// Reading with every set of defects: the first that applies is returned.
+pub fn reading(good: Frame) -> Tally {
+    let mut t = Tally::default();
+    let sets = match good.kind {
+        Kind::Binned => 32,
+        Kind::Speed => 64,
+    };
+    for i in 0..sets {
+        expect_damaged(&mut t, good, flags(i));
+    }
+    t
 }
 
-// Writing with the mask's defects.
-pub fn writing(t: Tally, kind: u64, mask: u64) -> Tally {
-    let mut s = [0u8; 1200];
-    let at = heads(kind) % 16 + 1;
-    build_with(
-        &mut s,
-        2,
-        coded(kind, BASE),
-        at,
-        choose(mask, 2, 128001, 53),
-        0,
-    );
-    let n = choose(mask, 0, 3, 2) as u64;
-    let code = kind_code(kind, mask, 1);
-    let count = choose(mask, 3, 3, 4) as usize;
-    let room = length_but(kind, mask, 4);
-    expect_write(t, n, code, &s, count, room, write_says(kind, mask))
+// A row: a frame of N = 2 is written, where some of these are wrong: N; a field, a lag and their count; the buffer.
+fn expect_misused(t: &mut Tally, good: Frame, defects: [bool; 6]) {
+    let [lags, field, lag, count, room, _] = defects;
+    let due = first_of([
+        (lags, Refusal::BadShape),
+        (field, Refusal::BadField),
+        (lag, Refusal::BadField),
+        (count, Refusal::BadField),
+        (room, Refusal::ShortBuffer),
+    ]);
+    let q = if lag { 128001 } else { 53 };
+    let s = good.bytes_with(good.kind.heads() + 1, q, 0);
+    let near = if room { Near::ByteLess } else { Near::Right };
+    let call = Writing {
+        n: if lags { 3 } else { 2 },
+        frame: if field { of_no_kind(good) } else { good },
+        count: if count { 3 } else { 4 },
+        room: near.of(good.length()),
+    };
+    expect_write(t, call, &s, due);
+}
+
+// Writing with every set of defects: the first that applies is returned.
+pub fn writing(good: Frame) -> Tally {
+    let mut t = Tally::default();
+    for i in 0..32 {
+        expect_misused(&mut t, good, flags(i));
+    }
+    t
 }

@@ -1,139 +1,162 @@
 // The writer from fields: every field at its limits and past them, the lag numbers, and the buffer.
 use crate::damage::turned;
-use crate::sweep::whole;
-use test_lib_frames::ask::{expect_read, expect_write};
-use test_lib_frames::build::{BASE, build, build_with, coded, kind_of, near};
-use test_lib_tools::bytes::{heads, length, twice};
-use test_lib_tools::report::{Tally, pick};
-use test_lib_tools::words::{get, word_of};
-
-// A row: the frame of a code written from the first `count` of its numbers into `room` bytes. Where `fits`, the frame
-// is due, and otherwise the number.
-fn written(
-    t: Tally,
-    n: u64,
-    code: u64,
-    count: usize,
-    room: usize,
-    fits: bool,
-    number: u64,
-) -> Tally {
-    let mut s = [0u8; 1200];
-    build(&mut s, n, code);
-    expect_write(
-        t,
-        n,
-        code,
-        &s,
-        count,
-        room,
-        pick(fits, length(n, kind_of(code)) as u64, number),
-    )
-}
+use crate::sweep::expect_whole;
+use lta_spec::Refusal;
+use test_lib_frames::ask::{Writing, expect_read, expect_write};
+use test_lib_frames::build::{Content, Field, Frame, Near};
+use test_lib_tools::bytes::twice;
+use test_lib_tools::report::Tally;
 
 // "not 2N lag numbers": 2N; one, four and many more; none, two, one less and four less.
-pub fn count(t: Tally, kind: u64, n: u64, i: u64) -> Tally {
-    let code = coded(kind, BASE);
-    written(t, n, code, near(twice(n), i), length(n, kind), i == 0, 16)
+pub fn counts(base: Frame) -> Tally {
+    let mut t = Tally::default();
+    let s = base.bytes();
+    for near in Near::ALL {
+        let count = near.of(twice(base.lags));
+        let due = Refusal::BadField.unless(near == Near::Right);
+        let call = Writing {
+            count,
+            ..Writing::of(base)
+        };
+        expect_write(&mut t, call, &s, due);
+    }
+    t
 }
 
 // 10, "buffer shorter than a frame": just enough, a byte, a word and many more, which are kept; no room, a mark's, a
 // byte and a word too few.
-pub fn room(t: Tally, kind: u64, n: u64, i: u64) -> Tally {
-    let code = coded(kind, BASE);
-    written(t, n, code, twice(n), near(length(n, kind), i), i < 4, 10)
+pub fn rooms(base: Frame) -> Tally {
+    let mut t = Tally::default();
+    let s = base.bytes();
+    for near in Near::ALL {
+        let room = near.of(base.length());
+        let due = Refusal::ShortBuffer.unless(room >= base.length());
+        let call = Writing {
+            room,
+            ..Writing::of(base)
+        };
+        expect_write(&mut t, call, &s, due);
+    }
+    t
 }
 
-// "a lag beyond 98 × ticks", with 128 for 98: 128000 and -128000 are the limits of the base frame; 128001, -128001,
-// -2^31 and 2^31 - 1.
-const LAGS: [u64; 6] = [
-    128000, 4294839296, 128001, 4294839295, 0x80000000, 0x7fffffff,
+// "a lag beyond 98 × ticks", with 128 for 98: 128000 and -128000 are the limits of the base frame.
+const LAGS: [(i32, Result<(), Refusal>); 6] = [
+    (128000, Ok(())),
+    (-128000, Ok(())),
+    (128001, Err(Refusal::BadField)),
+    (-128001, Err(Refusal::BadField)),
+    (i32::MIN, Err(Refusal::BadField)),
+    (i32::MAX, Err(Refusal::BadField)),
 ];
 
-// Row i: number i mod 6 of these as lag word i div 6, read and written.
-pub fn lag(t: Tally, kind: u64, n: u64, i: u64) -> Tally {
-    let mut s = [0u8; 1200];
-    let code = coded(kind, BASE);
-    let fits = i % 6 < 2;
-    let at = heads(kind) % 16 + (i / 6 % 512) as usize;
-    build_with(&mut s, n, code, at, word_of(get(&LAGS, i % 6)), 0);
-    let len = length(n, kind);
-    let a = expect_read(t, n, &s, len, pick(fits, 0, 16));
-    expect_write(a, n, code, &s, twice(n), len, pick(fits, len as u64, 16))
+// Each of these as each lag word, read and written.
+pub fn lags(base: Frame) -> Tally {
+    let mut t = Tally::default();
+    let heads = base.kind.heads();
+    for j in 0..twice(base.lags) {
+        for (lag, due) in LAGS {
+            let s = base.bytes_with(heads + j, lag.cast_unsigned(), 0);
+            expect_read(&mut t, base.lags, &s, base.length(), due);
+            expect_write(&mut t, Writing::of(base), &s, due);
+        }
+    }
+    t
 }
 
-// Codes of frames of kind 2: the field's number, in the order of Fields, and its value. First 20 that are written, then
-// 34 that 16 is due to.
-const FIELDS: [u64; 54] = [
+// Fields that a frame of kind 2 is written with.
+const WRITTEN: [(Field, u32); 20] = [
     // kind, cell, block
-    0x0_0000_0002,
-    0x1_0000_0000,
-    0x1_0000_000f,
-    0x2_0000_0000,
-    0x2_0000_00ff,
+    (Field::Kind, 0x0000_0002),
+    (Field::Cell, 0x0000_0000),
+    (Field::Cell, 0x0000_000f),
+    (Field::Block, 0x0000_0000),
+    (Field::Block, 0x0000_00ff),
     // data bin to 999, bank
-    0x3_0000_0000,
-    0x3_0000_03e7,
-    0x4_0000_0000,
-    0x4_0000_0001,
+    (Field::Bin, 0x0000_0000),
+    (Field::Bin, 0x0000_03e7),
+    (Field::Bank, 0x0000_0000),
+    (Field::Bank, 0x0000_0001),
     // ticks to 16,777,215, and as many as the centre count; counts to the ticks
-    0x5_00ff_ffff,
-    0x5_0000_0384,
-    0x6_0000_0000,
-    0x6_0000_03e8,
-    0x7_0000_0000,
-    0x7_0000_03e8,
+    (Field::Ticks, 0x00ff_ffff),
+    (Field::Ticks, 0x0000_0384),
+    (Field::Centre, 0x0000_0000),
+    (Field::Centre, 0x0000_03e8),
+    (Field::Edge, 0x0000_0000),
+    (Field::Edge, 0x0000_03e8),
     // W5 takes any 32 bits; W6 to 255,999,999
-    0x8_0000_0000,
-    0x8_8000_0000,
-    0x8_ffff_ffff,
-    0x9_0000_0000,
-    0x9_0f42_3fff,
-    // "2 or 3, else 16", also where only bits too high for the field differ
-    0x0_0000_0000,
-    0x0_0000_0001,
-    0x0_0000_0004,
-    0x0_0000_0007,
-    0x0_0000_000a,
-    0x0_8000_0002,
-    // "a field too wide for its bits": cell, block
-    0x1_0000_0010,
-    0x1_0020_0000,
-    0x1_ffff_ffff,
-    0x2_0000_0100,
-    0x2_0100_0000,
-    0x2_ffff_ffff,
-    // "data bin above 999", and past its 15 bits; bank
-    0x3_0000_03e8,
-    0x3_0000_7fff,
-    0x3_0000_8000,
-    0x3_0001_0000,
-    0x3_ffff_ffff,
-    0x4_0000_0002,
-    0x4_ffff_ffff,
-    // "ticks above 16,777,215"; ticks below a count
-    0x5_0100_0000,
-    0x5_ffff_ffff,
-    0x5_0000_0383,
-    0x5_0000_0000,
-    // "a count above ticks"
-    0x6_0000_03e9,
-    0x6_0100_0000,
-    0x6_ffff_ffff,
-    0x7_0000_03e9,
-    0x7_0100_0000,
-    0x7_ffff_ffff,
-    // "W6 above 255,999,999", and past its 29 bits
-    0x9_0f42_4000,
-    0x9_1000_0000,
-    0x9_2000_0000,
-    0x9_8000_0000,
-    0x9_ffff_ffff,
+    (Field::Second, 0x0000_0000),
+    (Field::Second, 0x8000_0000),
+    (Field::Second, 0xffff_ffff),
+    (Field::Offset, 0x0000_0000),
+    (Field::Offset, 0x0f42_3fff),
 ];
 
-// Row i of the table: the base frame with another value in one field, written; where no number is due, also read.
-pub fn field(t: Tally, kind: u64, n: u64, i: u64) -> Tally {
-    let code = coded(kind, turned(kind, get(&FIELDS, i)));
-    let a = written(t, n, code, twice(n), length(n, kind), i < 20, 16);
-    if i < 20 { whole(a, n, code, 0) } else { a }
+// Fields that 16 is due to.
+const REFUSED: [(Field, u32); 34] = [
+    // "2 or 3, else 16", also where only bits too high for the field differ
+    (Field::Kind, 0x0000_0000),
+    (Field::Kind, 0x0000_0001),
+    (Field::Kind, 0x0000_0004),
+    (Field::Kind, 0x0000_0007),
+    (Field::Kind, 0x0000_000a),
+    (Field::Kind, 0x8000_0002),
+    // "a field too wide for its bits": cell, block
+    (Field::Cell, 0x0000_0010),
+    (Field::Cell, 0x0020_0000),
+    (Field::Cell, 0xffff_ffff),
+    (Field::Block, 0x0000_0100),
+    (Field::Block, 0x0100_0000),
+    (Field::Block, 0xffff_ffff),
+    // "data bin above 999", and past its 15 bits; bank
+    (Field::Bin, 0x0000_03e8),
+    (Field::Bin, 0x0000_7fff),
+    (Field::Bin, 0x0000_8000),
+    (Field::Bin, 0x0001_0000),
+    (Field::Bin, 0xffff_ffff),
+    (Field::Bank, 0x0000_0002),
+    (Field::Bank, 0xffff_ffff),
+    // "ticks above 16,777,215"; ticks below a count
+    (Field::Ticks, 0x0100_0000),
+    (Field::Ticks, 0xffff_ffff),
+    (Field::Ticks, 0x0000_0383),
+    (Field::Ticks, 0x0000_0000),
+    // "a count above ticks"
+    (Field::Centre, 0x0000_03e9),
+    (Field::Centre, 0x0100_0000),
+    (Field::Centre, 0xffff_ffff),
+    (Field::Edge, 0x0000_03e9),
+    (Field::Edge, 0x0100_0000),
+    (Field::Edge, 0xffff_ffff),
+    // "W6 above 255,999,999", and past its 29 bits
+    (Field::Offset, 0x0f42_4000),
+    (Field::Offset, 0x1000_0000),
+    (Field::Offset, 0x2000_0000),
+    (Field::Offset, 0x8000_0000),
+    (Field::Offset, 0xffff_ffff),
+];
+
+// The base frame with another value in one field; in a table of kind 2.
+fn changed(base: Frame, field: Field, value: u32) -> Frame {
+    let value = match field {
+        Field::Kind => turned(base.kind, value),
+        _ => value,
+    };
+    base.with(Content::Changed(field, value))
+}
+
+// Each field of the tables, written; where no number is due, also read.
+pub fn fields(base: Frame) -> Tally {
+    let mut t = Tally::default();
+    for (field, value) in WRITTEN {
+        let frame = changed(base, field, value);
+        expect_write(&mut t, Writing::of(frame), &frame.bytes(), Ok(()));
+        expect_whole(&mut t, frame, 0);
+    }
+    for (field, value) in REFUSED {
+        let frame = changed(base, field, value);
+        let due = Err(Refusal::BadField);
+        expect_write(&mut t, Writing::of(frame), &frame.bytes(), due);
+    }
+    t
 }

@@ -1,218 +1,287 @@
-// Frames, built by the test itself: N and a code say all of a frame.
+// Frames, built by the test itself: kind, N and content say all of a frame.
 use lta_spec::Fields;
-use test_lib_tools::bytes::{
-    BINNED, PEAK, heads, last, minus, put, put_word, signed, sum, word_at,
-};
+use test_lib_tools::bytes::{Kind, PEAK, put, put_word, sum, twice, word_at};
 use test_lib_tools::random::{below, upto};
-use test_lib_tools::words::word_of;
 
-// The code of the base frame, from which most rows start. The digit before the low eight says which field (in the
-// order of Fields) has the value that they tell; Ah is none of the fields. A lag may be 128000 in size.
-pub const BASE: u64 = 0xa_0000_0000;
+// The bytes of every buffer here: some more than the longest frame has.
+pub const ROOM: usize = 1200;
 
-// FULL and a number: that many ticks, all valid, the greatest value in every other field, and lags as great as they
-// can be.
-pub const FULL: u64 = 0xb_0000_0000;
-
-// From here on: pseudo-random fields and lags that keep document 01's rules.
-pub const SEED: u64 = 0xc_0000_0000;
-
-// The code for a frame of this kind, 2 or 3: they differ in bit 36.
-pub fn coded(kind: u64, code: u64) -> u64 {
-    0x10_0000_0000 * (kind % 2) + code % 0x10_0000_0000
+// A field, in the order of Fields.
+#[derive(Clone, Copy)]
+pub enum Field {
+    Kind,
+    Cell,
+    Block,
+    Bin,
+    Bank,
+    Ticks,
+    Centre,
+    Edge,
+    Second,
+    Offset,
 }
 
-// The kind that a code's frame has the layout of.
-pub fn kind_of(code: u64) -> u64 {
-    BINNED + code / 0x10_0000_0000 % 2
+// What a frame has in its fields and lags.
+#[derive(Clone, Copy)]
+pub enum Content {
+    // The base frame, from which most rows start. A lag may be 128000 in size.
+    Base,
+    // The base frame with another value in one field.
+    Changed(Field, u32),
+    // So many ticks, all valid, the greatest value in every other field, and lags as great as they can be.
+    Full(u32),
+    // Pseudo-random fields and lags that keep document 01's rules, by the seed of their draws.
+    Random(u64),
 }
 
-// The digit before the low eight.
-fn digit(code: u64) -> u64 {
-    (code >> 32) % 16
+// A frame of N lags, with the layout of a kind.
+#[derive(Clone, Copy)]
+pub struct Frame {
+    pub kind: Kind,
+    pub lags: u64,
+    pub content: Content,
 }
 
-// Field `at`: v where it is the field that the code names, and otherwise what the base frame has.
-fn value(code: u64, at: u64, other: u32) -> u32 {
-    if digit(code) == at {
-        word_of(code)
-    } else {
-        other
+// The fields of the base frame.
+fn base_fields(kind: u32) -> Fields {
+    Fields {
+        kind,
+        cell: 5,
+        block: 77,
+        bin: 300,
+        bank: 1,
+        ticks: 1000,
+        centre: 900,
+        edge: 800,
+        second: 123456,
+        offset: 789,
     }
 }
 
 // The fields of the base frame, one of them changed.
-fn base_fields(code: u64) -> Fields {
-    Fields {
-        kind: value(code, 0, word_of(kind_of(code))),
-        cell: value(code, 1, 5),
-        block: value(code, 2, 77),
-        bin: value(code, 3, 300),
-        bank: value(code, 4, 1),
-        ticks: value(code, 5, 1000),
-        centre: value(code, 6, 900),
-        edge: value(code, 7, 800),
-        second: value(code, 8, 123456),
-        offset: value(code, 9, 789),
+fn changed_fields(kind: u32, field: Field, value: u32) -> Fields {
+    let base = base_fields(kind);
+    match field {
+        Field::Kind => Fields {
+            kind: value,
+            ..base
+        },
+        Field::Cell => Fields {
+            cell: value,
+            ..base
+        },
+        Field::Block => Fields {
+            block: value,
+            ..base
+        },
+        Field::Bin => Fields { bin: value, ..base },
+        Field::Bank => Fields {
+            bank: value,
+            ..base
+        },
+        Field::Ticks => Fields {
+            ticks: value,
+            ..base
+        },
+        Field::Centre => Fields {
+            centre: value,
+            ..base
+        },
+        Field::Edge => Fields {
+            edge: value,
+            ..base
+        },
+        Field::Second => Fields {
+            second: value,
+            ..base
+        },
+        Field::Offset => Fields {
+            offset: value,
+            ..base
+        },
     }
 }
 
 // So many ticks, all valid, and the greatest of every other field.
-fn full_fields(code: u64) -> Fields {
-    let ticks = word_of(code);
+fn full_fields(kind: u32, ticks: u32) -> Fields {
     Fields {
-        kind: word_of(kind_of(code)),
+        kind,
         cell: 15,
         block: 255,
         bin: 999,
         bank: 1,
-        ticks: ticks,
+        ticks,
         centre: ticks,
         edge: ticks,
-        second: 4294967295,
+        second: u32::MAX,
         offset: 255999999,
     }
 }
 
 // Fields that keep document 01's rules.
-fn some_fields(seed: u64) -> Fields {
+fn random_fields(kind: u32, seed: u64) -> Fields {
     let ticks = upto(seed, 0, 16777215);
     Fields {
-        kind: word_of(kind_of(seed)),
+        kind,
         cell: upto(seed, 1, 15),
         block: upto(seed, 2, 255),
         bin: upto(seed, 3, 999),
         bank: upto(seed, 4, 1),
-        ticks: ticks,
+        ticks,
         centre: upto(seed, 5, ticks),
         edge: upto(seed, 6, ticks),
-        second: upto(seed, 7, 4294967295),
+        second: upto(seed, 7, u32::MAX),
         offset: upto(seed, 8, 255999999),
-    }
-}
-
-// The fields of a code.
-pub fn fields_of(code: u64) -> Fields {
-    match digit(code) {
-        11 => full_fields(code),
-        12 => some_fields(code),
-        _ => base_fields(code),
     }
 }
 
 // DATA_BIAS, which is also the most that a lag may be in size.
 pub fn bias(ticks: u32) -> u32 {
-    word_of(PEAK * (ticks % 16777216) as u64)
+    PEAK as u32 * (ticks % (1 << 24))
 }
 
-// Header word k, by its bits in document 01; the eighth is DATA_BIAS.
-fn header_word(f: Fields, k: usize) -> u32 {
-    match k {
-        0 => f.kind | (f.cell << 11),
-        1 => (f.block << 8) | (f.bin << 16) | (f.bank << 31),
-        2 => f.ticks,
-        3 => f.centre,
-        4 => f.edge,
-        5 => f.second,
-        6 => f.offset,
-        _ => bias(f.ticks),
+// The header words, by their bits in document 01; the eighth is DATA_BIAS.
+fn header_words(f: Fields) -> [u32; 8] {
+    [
+        f.kind | (f.cell << 11),
+        (f.block << 8) | (f.bin << 16) | (f.bank << 31),
+        f.ticks,
+        f.centre,
+        f.edge,
+        f.second,
+        f.offset,
+        bias(f.ticks),
+    ]
+}
+
+impl Frame {
+    // The base frame of a kind and N.
+    pub fn base(kind: Kind, lags: u64) -> Frame {
+        Frame {
+            kind,
+            lags,
+            content: Content::Base,
+        }
     }
-}
 
-// The size of lag number j: rising in the base frame.
-fn lag_size(code: u64, most: u32, j: u64) -> u32 {
-    match digit(code) {
-        11 => most,
-        12 => upto(code, 100 + j % 512, most),
-        _ => 1 + 45 * (j % 512) as u32,
+    // Another content in the same layout.
+    pub fn with(self, content: Content) -> Frame {
+        Frame { content, ..self }
     }
-}
 
-// Lag word j: I up and Q down, or either where the frame is pseudo-random.
-fn lag_word(code: u64, ticks: u32, j: u64) -> u32 {
-    let size = lag_size(code, bias(ticks), j);
-    let down = if digit(code) == 12 {
-        below(code, 1000 + j % 512, 2)
-    } else {
-        j
-    };
-    if down % 2 == 1 { minus(size) } else { size }
-}
-
-// Word k of a frame, the last apart.
-fn frame_word(code: u64, k: usize) -> u32 {
-    let f = fields_of(code);
-    let end = heads(kind_of(code));
-    if k < end {
-        header_word(f, k)
-    } else {
-        lag_word(code, f.ticks, (k - end) as u64)
+    pub fn length(self) -> usize {
+        self.kind.length(self.lags)
     }
-}
 
-// The words of a frame, the last apart.
-fn fill(s: &mut [u8], n: u64, code: u64) {
-    let end = last(n, kind_of(code));
-    let mut k: usize = 0;
-    while k < end {
-        put_word(&mut *s, k, frame_word(code, k));
-        k += 1;
+    pub fn fields(self) -> Fields {
+        let kind = self.kind as u32;
+        match self.content {
+            Content::Base => base_fields(kind),
+            Content::Changed(field, value) => changed_fields(kind, field, value),
+            Content::Full(ticks) => full_fields(kind, ticks),
+            Content::Random(seed) => random_fields(kind, seed),
+        }
     }
-}
 
-// "Last: sum of all words before it", and `add`.
-pub fn seal(s: &mut [u8], n: u64, kind: u64, add: u32) {
-    let k = last(n, kind);
-    let w = std::num::wrapping_add_u32(sum(s, 0, k), add);
-    put_word(s, k, w);
-}
+    // Lag word j, where no lag is beyond `most` in size: rising in the base frame; I up and Q down, or either where the
+    // frame is pseudo-random.
+    fn lag_word(self, most: u32, j: u16) -> u32 {
+        let (size, is_down) = match self.content {
+            Content::Base | Content::Changed(..) => (1 + 45 * u32::from(j), j % 2 == 1),
+            Content::Full(_) => (most, j % 2 == 1),
+            Content::Random(seed) => {
+                let draw = u64::from(j);
+                (
+                    upto(seed, 100 + draw, most),
+                    below(seed, 1000 + draw, 2) == 1,
+                )
+            }
+        };
+        if is_down { size.wrapping_neg() } else { size }
+    }
 
-// The frame of N lags with this code.
-pub fn build(s: &mut [u8], n: u64, code: u64) {
-    put(&mut *s, 0, 0x4c);
-    put(&mut *s, 1, 0x54);
-    fill(&mut *s, n, code);
-    seal(&mut *s, n, kind_of(code), 0);
-}
+    // "Last: sum of all words before it", and `add`.
+    pub fn seal(self, s: &mut [u8], add: u32) {
+        let k = self.kind.last(self.lags);
+        let right = sum(s, 0, k);
+        put_word(s, k, right.wrapping_add(add));
+    }
 
-// The frame of a code with w as word k, then the right last word and `add`.
-pub fn build_with(s: &mut [u8], n: u64, code: u64, k: usize, w: u32, add: u32) {
-    build(&mut *s, n, code);
-    put_word(&mut *s, k, w);
-    seal(&mut *s, n, kind_of(code), add);
+    pub fn bytes(self) -> [u8; ROOM] {
+        let mut s = [0; ROOM];
+        put(&mut s, 0, 0x4c);
+        put(&mut s, 1, 0x54);
+        let f = self.fields();
+        let heads = self.kind.heads();
+        for (k, word) in header_words(f).into_iter().enumerate().take(heads) {
+            put_word(&mut s, k, word);
+        }
+        for j in 0..twice(self.lags) {
+            put_word(&mut s, heads + j, self.lag_word(bias(f.ticks), j as u16));
+        }
+        self.seal(&mut s, 0);
+        s
+    }
+
+    // Its bytes with w as word k, then the right last word and `add`.
+    pub fn bytes_with(self, k: usize, w: u32, add: u32) -> [u8; ROOM] {
+        let mut s = self.bytes();
+        put_word(&mut s, k, w);
+        self.seal(&mut s, add);
+        s
+    }
 }
 
 // Lag number j of the pairs that start with byte `at`.
 pub fn lag(s: &[u8], at: usize, j: usize) -> i32 {
-    signed(word_at(s, at % 64 + 4 * (j % 512)))
+    word_at(s, at.saturating_add(j.saturating_mul(4))).cast_signed()
 }
 
-// The lag numbers of the pairs that start with byte `at`, as many as the slice has room for.
-pub fn numbers(s: &[u8], at: usize, lags: &mut [i32]) {
-    let mut j: usize = 0;
-    while j < lags.len() {
-        lags[j] = lag(s, at, j);
-        j += 1;
+// The lag numbers of the pairs that start with byte `at`, and four more than the longest frame has.
+pub fn numbers(s: &[u8], at: usize) -> [i32; 260] {
+    let mut lags = [0; 260];
+    for (j, number) in lags.iter_mut().enumerate() {
+        *number = lag(s, at, j);
     }
+    lags
 }
 
-// The first k lag numbers.
-pub fn first(lags: &[i32], k: usize) -> &[i32] {
-    if k <= lags.len() { &lags[0..k] } else { lags }
+// A length, and others near it or far from it. A word more and a word less come to the length of a frame of the other
+// kind.
+#[derive(Clone, Copy, PartialEq, Eq)]
+pub enum Near {
+    Right,
+    ByteMore,
+    WordMore,
+    Longest,
+    Nothing,
+    Two,
+    ByteLess,
+    WordLess,
 }
 
-// A length and others near it or far from it: 0 is the length itself, 1 to 3 are longer, and 4 to 7 shorter. 2 and 7,
-// a word more and a word less, come to the length of a frame of the other kind.
-pub fn near(len: usize, i: u64) -> usize {
-    let most = len % 4096;
-    match i {
-        0 => most,
-        1 => most + 1,
-        2 => most + 4,
-        3 => 1200,
-        4 => 0,
-        5 => 2,
-        6 => (most + 4095) % 4096,
-        _ => (most + 4092) % 4096,
+impl Near {
+    pub const ALL: [Near; 8] = [
+        Near::Right,
+        Near::ByteMore,
+        Near::WordMore,
+        Near::Longest,
+        Near::Nothing,
+        Near::Two,
+        Near::ByteLess,
+        Near::WordLess,
+    ];
+
+    pub fn of(self, right: usize) -> usize {
+        match self {
+            Near::Right => right,
+            Near::ByteMore => right.saturating_add(1),
+            Near::WordMore => right.saturating_add(4),
+            Near::Longest => ROOM,
+            Near::Nothing => 0,
+            Near::Two => 2,
+            Near::ByteLess => right.saturating_sub(1),
+            Near::WordLess => right.saturating_sub(4),
+        }
     }
 }

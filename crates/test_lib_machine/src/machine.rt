@@ -1,290 +1,161 @@
-// The plain machine: what each call answers, and what it does to the sets.
-use crate::picks::{begin_wait, picked_cell, serve};
-use crate::sets::{
-    FRAME, HELD, OPEN, bin_number, bin_place, bins, cells, join, lags, members, move_set, occupied,
-    of_cell, set_cell, shape_value, state, time,
-};
-use lta_spec::Shape;
-use std::num::wrapping_add_u64;
-use test_lib_rules::call::{
-    ACCEPTED, Call, DUMP, EMIT, INTEGRATE, PAGE, PICK, READING, SPEED_DUMP, TICK, data_bin,
-    next_block, stored_command,
-};
+// The plain machine: what each call on the run says, and what it does to the cells.
+use crate::cell::Cell;
+use lta_spec::{Refusal, Shape};
+use test_lib_rules::call::{Answer, Bin, Call, Op};
+use test_lib_rules::history::Sampler;
+use test_lib_rules::places::{behind, places, taking};
 use test_lib_rules::{frame_words, page};
-use test_lib_tools::bytes::{BINNED, SPEED};
-use test_lib_tools::words::{less, put};
+use test_lib_tools::bytes::Kind;
 
-const FULL: u64 = 524288;
+// The most cells of a run.
+const CELLS: usize = 16;
 
-// The shape of the run.
-pub fn shape(m: &[u64]) -> Shape {
-    Shape {
-        cells: cells(m),
-        lags: lags(m),
-        bins: bins(m),
-        blocks: shape_value(m, 4),
-        start: shape_value(m, 5),
-        rate: shape_value(m, 6),
-        second: shape_value(m, 7),
-    }
+#[derive(Drop)]
+pub struct Machine {
+    shape: Shape,
+    cells: [Cell; CELLS],
+    // The cell last served by a pick, and how many picks have served one.
+    served: Option<u64>,
+    picks: u64,
 }
 
-// Has Open 524,288 members?
-fn held_off(m: &[u64], c: u64) -> bool {
-    members(m, c, OPEN) >= FULL
-}
-
-// "a tick, the number of cells held off".
-fn tick_answer(m: &[u64]) -> u64 {
-    let count = cells(m);
-    let mut held: u64 = 0;
-    let mut c: u64 = 0;
-    while c < count {
-        if held_off(m, c) {
-            held = wrapping_add_u64(held, 1);
+impl Machine {
+    // A fresh run.
+    pub fn new(shape: Shape, seed: u64) -> Machine {
+        let mut cells = [Cell::new(shape, Sampler { seed, cell: 0 }); CELLS];
+        for (c, cell) in cells.iter_mut().enumerate() {
+            cell.sampler.cell = c as u64;
         }
-        c += 1;
+        Machine {
+            shape,
+            cells,
+            served: None,
+            picks: 0,
+        }
     }
-    held
-}
 
-// "the loss number .. 0 if kept, 7 for 111".
-fn dump_answer(m: &[u64], c: u64, command: u64) -> u64 {
-    if command == 7 {
-        return 7;
+    pub fn shape(&self) -> Shape {
+        self.shape
     }
-    if command == 4 {
-        return 1;
-    }
-    if occupied(m, c) { 2 } else { 0 }
-}
 
-// Of command 011: "answers its length", "10 applies to it last"; Held is not asked.
-fn dump_says(m: &[u64], k: Call) -> u64 {
-    if k.a == SPEED_DUMP {
-        frame_words::says(lags(m), SPEED, k.bytes)
-    } else {
-        wrapping_add_u64(ACCEPTED, dump_answer(m, k.cell, k.a))
+    pub fn cells(&self) -> &[Cell] {
+        let count = self.shape.cells as usize;
+        self.cells.get(..count).unwrap_or(&self.cells)
     }
-}
 
-// The bin of Held's label, of 2B.
-fn label_bin(m: &[u64], c: u64) -> u64 {
-    bin_number(m, of_cell(m, c, 2), of_cell(m, c, 3))
-}
-
-// "Bin Ready: to loss 3. Command 000 on a Filling bin: .. loss 4 .. Command 001 or 010 where the joint set would pass
-// 16,777,215 members: Held goes to loss 5. Otherwise it joins the set."
-fn integrate_answer(m: &[u64], c: u64) -> u64 {
-    let k = label_bin(m, c);
-    let now = state(m, c, k);
-    if now == 2 {
-        return 3;
+    pub fn cell(&self, c: u64) -> Option<&Cell> {
+        self.cells().get(c as usize)
     }
-    if of_cell(m, c, 1) == 0 {
-        return if now == 1 { 4 } else { 0 };
-    }
-    let joint = wrapping_add_u64(members(m, c, bin_place(k)), members(m, c, HELD));
-    if joint > 16777215 { 5 } else { 0 }
-}
 
-// "9: bin not Ready, 10: buffer shorter than a frame", or the frame's length.
-fn emit_says(m: &[u64], k: Call) -> u64 {
-    let bin = bin_number(m, k.a, k.b);
-    if state(m, k.cell, bin) != 2 {
-        9
-    } else {
-        frame_words::says(lags(m), BINNED, k.bytes)
+    // The sampler of a cell; behind the last one they start again.
+    pub fn sampler(&self, c: usize) -> Sampler {
+        self.cells[c % CELLS].sampler
     }
-}
 
-// "20 when no cell has a Ready bin, tested .. before 10", or the frame's length.
-fn pick_says(m: &[u64], bytes: u64) -> u64 {
-    if picked_cell(m) == cells(m) {
-        20
-    } else {
-        frame_words::says(lags(m), BINNED, bytes)
+    // t.
+    pub fn time(&self) -> u64 {
+        self.cells[0].sets.time()
     }
-}
 
-// What a call says whose arguments are right: "8: Held unoccupied", 9, 20 and 10, or its answer; of a forecast, request
-// 2026-02, "exactly 524,288 less the ticks in the open integration".
-pub fn says(m: &[u64], k: Call) -> u64 {
-    let c = k.cell;
-    let kind = k.kind;
-    match kind {
-        TICK => wrapping_add_u64(ACCEPTED, tick_answer(m)),
-        DUMP => dump_says(m, k),
-        INTEGRATE => {
-            if occupied(m, c) {
-                wrapping_add_u64(ACCEPTED, integrate_answer(m, c))
-            } else {
-                8
+    // "a tick, the number of cells held off".
+    fn tick_says(&self) -> Answer {
+        let held_off = self.cells().iter().filter(|cell| cell.is_held_off());
+        Ok(held_off.count() as u64)
+    }
+
+    // "20 when no cell has a Ready bin, tested .. before 10", or the frame's length.
+    fn pick_says(&self, bytes: u64) -> Answer {
+        Refusal::NothingReady.unless(self.picked_cell().is_some())?;
+        frame_words::says(self.shape.lags, Kind::Binned, bytes)
+    }
+
+    // What a call says whose arguments are right: 8, 9, 20 and 10, or its answer.
+    pub fn says(&self, k: Call) -> Answer {
+        match k.op {
+            Op::Tick(_) => self.tick_says(),
+            Op::Page => page::says(self.shape.cells, k.bytes),
+            Op::Pick(_) => self.pick_says(k.bytes),
+            _ => self.cell(k.cell).ok_or(Refusal::NoCell)?.says(k),
+        }
+    }
+
+    // "Then t grows by 1."
+    fn tick(&mut self) {
+        for cell in self.cells.iter_mut().take(self.shape.cells as usize) {
+            cell.tick();
+        }
+    }
+
+    // A pick of this bin. "Naming a bin to emit moves no place": a pick does.
+    fn pick(&mut self, c: u64, bin: Bin) {
+        self.served = Some(c);
+        self.picks = self.picks.wrapping_add(1);
+        if let Some(cell) = self.cells.get_mut(c as usize) {
+            cell.emit(bin);
+            cell.serve(bin);
+        }
+    }
+
+    // A call on one cell.
+    fn apply_to(&mut self, c: u64, op: Op) {
+        let picks = self.picks;
+        if let Some(cell) = self.cells.get_mut(c as usize) {
+            match op {
+                Op::Dump {
+                    command,
+                    bank,
+                    phase,
+                } => cell.dump(command, bank, phase),
+                Op::Integrate => cell.integrate(picks),
+                Op::Emit(bin) => cell.emit(bin),
+                _ => {}
             }
         }
-        EMIT => emit_says(m, k),
-        READING => ACCEPTED,
-        PAGE => page::says(cells(m), k.bytes),
-        PICK => pick_says(m, k.bytes),
-        _ => wrapping_add_u64(ACCEPTED, less(FULL, members(m, c, OPEN))),
     }
-}
 
-// "t joins Open if Open has fewer than 524,288 members, else loss 6."
-fn tick_cell(m: &mut [u64], c: u64) {
-    let p = if held_off(m, c) { 6 } else { OPEN };
-    join(m, c, p);
-}
-
-// "Then t grows by 1."
-fn tick(m: &mut [u64]) {
-    let count = cells(m);
-    let mut c: u64 = 0;
-    while c < count {
-        tick_cell(&mut *m, c);
-        c += 1;
+    // An accepted call.
+    pub fn apply(&mut self, k: Call) {
+        match k.op {
+            Op::Tick(_) => self.tick(),
+            Op::Pick(Some(bin)) => self.pick(k.cell, bin),
+            op => self.apply_to(k.cell, op),
+        }
     }
-    let next = wrapping_add_u64(time(m), 1);
-    put(&mut *m, 0, next);
-}
 
-// Open goes to a place. "An integration's stamp is t at its cell's previous accepted dump other than 111".
-fn close(m: &mut [u64], c: u64, to: u64) {
-    let now = time(m);
-    move_set(&mut *m, c, OPEN, to);
-    set_cell(&mut *m, c, 4, now);
-}
-
-// Held's flag and label.
-fn set_label(m: &mut [u64], c: u64, command: u64, bank: u64, bin: u64) {
-    set_cell(&mut *m, c, 0, 1);
-    set_cell(&mut *m, c, 1, command);
-    set_cell(&mut *m, c, 2, bank);
-    set_cell(m, c, 3, bin);
-}
-
-// The cell's block after a dump but 111, counted from S.
-fn block_after(m: &[u64], c: u64, command: u64) -> u64 {
-    next_block(
-        of_cell(m, c, 6),
-        of_cell(m, c, 7),
-        command,
-        shape_value(m, 4),
-    )
-}
-
-// The data bin in the label of a dump but 111, with the block as it is after the dump's step.
-pub fn dump_bin(m: &[u64], k: Call) -> u64 {
-    data_bin(k.phase, shape_value(m, 4), block_after(m, k.cell, k.a))
-}
-
-// The cell's block moves, and the command becomes its last: of every accepted dump but 111.
-fn count_block(m: &mut [u64], c: u64, command: u64) {
-    let block = block_after(m, c, command);
-    set_cell(&mut *m, c, 6, block);
-    set_cell(m, c, 7, stored_command(command));
-}
-
-// Where Open goes to Held: the label, and Open's stamp as Held's.
-fn hold(m: &mut [u64], k: Call, to: u64) {
-    if to != HELD {
-        return;
+    // Where the next pick starts: at "the cell after the last one served (cell 0 in a fresh run)".
+    pub fn next_cell(&self) -> u64 {
+        self.served.map_or(0, |c| behind(c, 1, self.shape.cells))
     }
-    let bin = dump_bin(m, k);
-    let stamp = of_cell(m, k.cell, 4);
-    set_label(&mut *m, k.cell, k.a, k.b, bin);
-    set_cell(m, k.cell, 5, stamp);
-}
 
-// The place that Open goes to: of 011 "Open becomes its set", a frame's; else Held, or the loss that is the answer.
-fn destination(command: u64, answer: u64) -> u64 {
-    if command == SPEED_DUMP {
-        return FRAME;
+    // "going round, it takes the first cell with a Ready bin".
+    fn picked_cell(&self) -> Option<u64> {
+        let count = self.shape.cells;
+        let first = self.next_cell();
+        (0..count)
+            .map(|j| behind(first, j, count))
+            .find(|&c| self.cell(c).is_some_and(|cell| cell.ready() > 0))
     }
-    if answer == 0 { HELD } else { answer }
-}
 
-// "111: nothing. 100: Open goes to loss 1. 000 (save), 001 (add), 010 (last): if Held is occupied, Open goes to loss
-// 2; else Open and the label go to Held." 011 "leaves Held as it is".
-fn dump(m: &mut [u64], k: Call, answer: u64) {
-    if answer == 7 {
-        return;
+    // The call; a pick gets the bin that it takes, where there is one.
+    pub fn taken(&self, k: Call) -> Call {
+        if let Op::Pick(_) = k.op {
+            self.with_bin(k).unwrap_or(k)
+        } else {
+            k
+        }
     }
-    let to = destination(k.a, answer);
-    hold(&mut *m, k, to);
-    count_block(&mut *m, k.cell, k.a);
-    close(&mut *m, k.cell, to);
-}
 
-// "A bin's stamp is that of the integration that took it out of Free or replaced its set."
-fn stamp_bin(m: &mut [u64], c: u64, k: u64, answer: u64) {
-    if (answer == 4) | (state(m, c, k) == 0) {
-        let stamp = of_cell(m, c, 5);
-        set_cell(m, c, 9 + 2 * (k % 32), stamp);
+    fn with_bin(&self, k: Call) -> Option<Call> {
+        let c = self.picked_cell()?;
+        let q = self.cell(c)?.picked_bin()?;
+        Some(taking(k, c, q, self.shape.bins))
     }
-}
 
-// "the bin's old set goes to loss 4".
-fn replace(m: &mut [u64], c: u64, k: u64, answer: u64) {
-    if answer == 4 {
-        move_set(m, c, bin_place(k), 4);
-    }
-}
-
-// "Held replaces it", or "Otherwise it joins the set."
-fn bin_held(m: &mut [u64], c: u64, k: u64, answer: u64) {
-    stamp_bin(&mut *m, c, k, answer);
-    replace(&mut *m, c, k, answer);
-    move_set(&mut *m, c, HELD, bin_place(k));
-}
-
-// Held's set goes to its loss or to its bin.
-fn move_held(m: &mut [u64], c: u64, k: u64, answer: u64) {
-    if (answer == 3) | (answer == 5) {
-        move_set(m, c, HELD, answer);
-    } else {
-        bin_held(m, c, k, answer);
-    }
-}
-
-// "A Free bin becomes Filling. After 010 a bin is Ready, also after loss 5." Held "becomes unoccupied".
-fn settle(m: &mut [u64], c: u64, k: u64, answer: u64) {
-    let last = (of_cell(m, c, 1) == 2) | (answer == 3);
-    let after = if last { 2 } else { 1 };
-    begin_wait(&mut *m, c, k, after);
-    set_cell(&mut *m, c, 8 + 2 * (k % 32), after);
-    set_cell(&mut *m, c, 0, 0);
-}
-
-fn integrate(m: &mut [u64], c: u64, answer: u64) {
-    let k = label_bin(m, c);
-    move_held(&mut *m, c, k, answer);
-    settle(&mut *m, c, k, answer);
-}
-
-// "its set becomes that of a frame, and the bin Free and empty".
-fn emit(m: &mut [u64], c: u64, bank: u64, bin: u64) {
-    let k = bin_number(m, bank, bin);
-    move_set(&mut *m, c, bin_place(k), FRAME);
-    set_cell(&mut *m, c, 8 + 2 * (k % 32), 0);
-}
-
-// A pick of the bin that the call says. "Naming a bin to emit moves no place": a pick does.
-fn pick(m: &mut [u64], k: Call) {
-    let q = bin_number(m, k.a, k.b);
-    emit(&mut *m, k.cell, k.a, k.b);
-    serve(m, k.cell, q);
-}
-
-// An accepted call.
-pub fn apply(m: &mut [u64], k: Call, answer: u64) {
-    let kind = k.kind;
-    match kind {
-        TICK => tick(m),
-        DUMP => dump(m, k, answer),
-        INTEGRATE => integrate(m, k.cell, answer),
-        EMIT => emit(m, k.cell, k.a, k.b),
-        PICK => pick(m, k),
-        _ => {}
+    // "a Ready bin is emitted within C × 2B successful picks, whatever other calls stand between": has none waited so
+    // long?
+    pub fn is_fair(&self) -> bool {
+        let most = self.shape.cells.wrapping_mul(places(self.shape.bins));
+        let picks = self.picks;
+        self.cells().iter().all(|cell| cell.slots().iter().all(|slot| !slot.is_late(picks, most)))
     }
 }

@@ -1,11 +1,9 @@
 // Work memory that nobody but the test has written: two cells, three data bins for a bank, three blocks from 5 on, and
-// every word within its limits. A variant says what differs: is Held occupied, its command, the state of its bin, is
-// Open full, and is the first bin Ready?
-use crate::map::{greatest, start};
+// every word within its limits.
+use crate::map::{Field, Layout, Place, Set, State, greatest};
 use lta_spec::Shape;
-use std::num::wrapping_add_u64;
-use test_lib_rules::call::{cell_words, shaped, stored_command};
-use test_lib_tools::words::{less, mix, put};
+use test_lib_rules::call::{ADD, SAVE, shaped, stored_command};
+use test_lib_tools::words::{mix, put};
 
 // t: less than the ticks of some sets, which no call asks about.
 pub const NOW: u64 = 1000;
@@ -13,167 +11,161 @@ pub const NOW: u64 = 1000;
 // B. Held's label names data bin 0 of bank 1.
 pub const BINS: u64 = 3;
 
-pub fn shape(n: u64) -> Shape {
-    shaped(2, n, BINS, 3, 5, 4, 0)
+pub fn shape(lags: u64) -> Shape {
+    shaped([2, lags, BINS, 3, 5, 4, 0])
 }
 
-// The number of a variant.
-pub fn variant(occupied: u64, command: u64, state: u64, full: u64) -> u64 {
-    occupied % 2 + 2 * (command % 3) + 6 * (state % 3) + 18 * (full % 2)
+// Words of work memory, and behind them some that no call is lent.
+pub type Memory = [u64; 384];
+
+// Memory with x as word w.
+pub fn with_word(mut memory: Memory, w: u64, x: u64) -> Memory {
+    put(&mut memory, w, x);
+    memory
 }
 
-// That variant with a first bin that is not Ready.
-pub fn unready(v: u64) -> u64 {
-    v % 36 + 36
+// What differs: is Held occupied, its command, the state of its bin, is Open full, and is the first bin Ready?
+#[derive(Clone, Copy, Debug, PartialEq, Eq)]
+pub struct Variant {
+    pub occupied: bool,
+    pub command: u64,
+    pub state: State,
+    pub full: bool,
+    pub ready: bool,
 }
 
-fn occupied(v: u64) -> u64 {
-    v % 2
+// A Held that is not occupied, and a Free bin.
+pub const PLAIN: Variant = Variant {
+    occupied: false,
+    command: SAVE,
+    state: State::Free,
+    full: false,
+    ready: true,
+};
+
+#[derive(Clone, Copy, Debug, PartialEq, Eq)]
+pub struct Base {
+    pub layout: Layout,
+    pub variant: Variant,
 }
 
-fn command(v: u64) -> u64 {
-    v / 2 % 3
-}
-
-fn full(v: u64) -> bool {
-    v / 18 % 2 == 1
-}
-
-// Of bin q: Ready, or in some variants Filling, then Filling and Free in bank 0; in bank 1 the variant's, and Free.
-fn state(v: u64, q: u64) -> u64 {
-    match q {
-        0 => 2 - v / 36 % 2,
-        1 => 1,
-        BINS => v / 6 % 3,
-        _ => 0,
+impl Base {
+    // With N lags.
+    pub fn of(lags: u8, variant: Variant) -> Base {
+        Base {
+            layout: Layout {
+                lags,
+                bins: BINS as u16,
+            },
+            variant,
+        }
     }
-}
 
-fn bin_ticks(v: u64, q: u64) -> u64 {
-    match state(v, q) {
-        0 => 0,
-        1 => 7,
-        _ => 9,
+    // Of bin q: Ready, or in some variants Filling, then Filling and Free in bank 0; in bank 1 the variant's, and Free.
+    fn state(self, q: u64) -> State {
+        match q {
+            0 if self.variant.ready => State::Ready,
+            0 | 1 => State::Filling,
+            BINS => self.variant.state,
+            _ => State::Free,
+        }
     }
-}
 
-// The ticks of row r: Open, Held, and the losses.
-fn row_ticks(v: u64, r: u64) -> u64 {
-    match r {
-        0 => { if full(v) { 524288 } else { 3 } }
-        1 => 5 * (occupied(v) % 2),
-        _ => 20 + r % 8,
+    // The number of Ready bins.
+    fn ready(self) -> u64 {
+        [0, BINS]
+            .iter()
+            .filter(|&&q| self.state(q) == State::Ready)
+            .count() as u64
     }
-}
 
-// The number of Ready bins: those whose states are 2.
-fn ready(v: u64) -> u64 {
-    state(v, 0) / 2 % 2 + state(v, BINS) / 2 % 2
-}
-
-// Flag, label, and the stamps of Open and of Held; block 6 behind a 001; the next pick starts behind the first bin.
-fn head(v: u64, i: u64) -> u64 {
-    match i {
-        0 => occupied(v),
-        1 => command(v),
-        2 => 1,
-        3 => 0,
-        4 => 900,
-        5 => 800,
-        6 => 1,
-        7 => stored_command(1),
-        8 => ready(v),
-        _ => 1,
+    fn ticks(self, set: Set) -> u64 {
+        match set {
+            Set::Open => if self.variant.full { 524_288 } else { 3 },
+            Set::Held => if self.variant.occupied { 5 } else { 0 },
+            Set::Lost(loss) => 22 + loss as u64,
+            Set::Bin(q) => match self.state(q) {
+                State::Free => 0,
+                State::Filling => 7,
+                State::Ready => 9,
+            },
+        }
     }
-}
 
-// Word j of a row of so many ticks.
-fn row_word(ticks: u64, j: u64, i: u64) -> u64 {
-    match j {
-        0 | 1 => ticks,
-        2 => ticks / 2,
-        _ => mix(i, 5) % (greatest(ticks) % 4294967296 + 1),
+    // Block 6 behind a 001; the next pick starts behind the first bin.
+    fn field(self, field: Field) -> u64 {
+        match field {
+            Field::Flag => u64::from(self.variant.occupied),
+            Field::Command => self.variant.command,
+            Field::Bank => 1,
+            Field::Bin => 0,
+            Field::OpenStamp => 900,
+            Field::HeldStamp => 800,
+            Field::Block => 1,
+            Field::LastCommand => stored_command(Some(ADD)),
+            Field::Ready => self.ready(),
+            Field::NextBin => 1,
+        }
     }
-}
 
-// The ticks of a row, or word j of it, which is word i of its part of the cell.
-fn row_part(ticks: u64, j: u64, i: u64, row: bool) -> u64 {
-    if row { ticks } else { row_word(ticks, j, i) }
-}
-
-// Of word i behind the registers: the word, or the ticks of its row.
-fn bin_word(n: u64, v: u64, i: u64, row: bool) -> u64 {
-    let width = 5 + 2 * (n % 256);
-    let q = i / width;
-    let j = i % width;
-    if (j > 1) | row {
-        return row_part(bin_ticks(v, q), less(j, 2), i, row);
+    // Word j of a cell, which is word i of a set's row: ticks, edge and centre count, sums.
+    fn row_word(self, set: Set, i: u64, j: u64) -> u64 {
+        let ticks = self.ticks(set);
+        let drawn = match set {
+            Set::Bin(_) => mix(j.saturating_sub(self.layout.bins_at()), 5),
+            _ => mix(j, 5),
+        };
+        match i {
+            0 | 1 => ticks,
+            2 => ticks / 2,
+            _ => drawn % greatest(ticks).saturating_add(1),
+        }
     }
-    if j == 0 { state(v, q) } else { 700 + q % 8 }
-}
 
-// Of word i behind the rows: a register entry, or a word of a bin.
-fn behind_rows(n: u64, v: u64, i: u64, rows: u64, row: bool) -> u64 {
-    let registers = wrapping_add_u64(rows, 2 * (n % 256 / 2 + 1));
-    if i < registers {
-        mix(i, 3) % 512
-    } else {
-        bin_word(n, v, i - registers, row)
+    // Word j of a cell.
+    fn cell_word(self, j: u64) -> u64 {
+        match self.layout.place(j) {
+            Place::Field(field) => self.field(field),
+            Place::Row(set, i) => self.row_word(set, i, j),
+            Place::Entry(_, _) => mix(j, 3) % 512,
+            Place::State(q) => self.state(q) as u64,
+            Place::Stamp(q) => 700 + q % 8,
+        }
     }
-}
 
-// Of word i of a cell: the word, or the ticks of its row.
-fn cell_word(n: u64, v: u64, i: u64, row: bool) -> u64 {
-    let width = 3 + 2 * (n % 256);
-    let rows = 10 + 8 * width;
-    if i < 10 {
-        return head(v, i);
+    // What word i of memory is in its cell; none of t and of the last word.
+    fn in_cell(self, i: u64) -> Option<u64> {
+        if i == self.layout.start(2) {
+            return None;
+        }
+        i.checked_sub(1)?.checked_rem(self.layout.cell_words())
     }
-    let at = i - 10;
-    if i < rows {
-        row_part(row_ticks(v, at / width), at % width, i, row)
-    } else {
-        behind_rows(n, v, i, rows, row)
-    }
-}
 
-// Word i of the cells, which are all alike.
-fn cells_word(n: u64, v: u64, i: u64, row: bool) -> u64 {
-    let width = cell_words(n, BINS);
-    if width == 0 {
-        return 0;
+    // Word i of memory: t, those of the cells, which are all alike, and as the last one that the next pick starts at
+    // the last cell.
+    pub fn word(self, i: u64) -> u64 {
+        match self.in_cell(i) {
+            Some(j) => self.cell_word(j),
+            None if i == 0 => NOW,
+            None => 1,
+        }
     }
-    cell_word(n, v, i % width, row)
-}
 
-// Word i of memory; or the ticks of the row that it stands in, and any number where it stands in none. The last word
-// has the next pick start at the last cell.
-pub fn word(n: u64, v: u64, i: u64, row: bool) -> u64 {
-    if i == 0 {
-        return NOW;
+    // The ticks of the row or of the bin that word i of memory stands in.
+    pub fn ticks_at(self, i: u64) -> Option<u64> {
+        match self.layout.place(self.in_cell(i)?) {
+            Place::Row(set, _) => Some(self.ticks(set)),
+            Place::State(q) | Place::Stamp(q) => Some(self.ticks(Set::Bin(q))),
+            Place::Field(_) | Place::Entry(_, _) => None,
+        }
     }
-    if i == start(n, BINS, 2) {
-        return 1;
+
+    pub fn memory(self) -> Memory {
+        let mut memory = [0; 384];
+        let words = self.layout.start(2).saturating_add(1);
+        for (i, word) in memory.iter_mut().enumerate().take(words as usize) {
+            *word = self.word(i as u64);
+        }
+        memory
     }
-    cells_word(n, v, less(i, 1), row)
-}
-
-// Word i of memory with x as word w.
-fn word_but(n: u64, v: u64, i: u64, w: u64, x: u64) -> u64 {
-    if i == w { x } else { word(n, v, i, false) }
-}
-
-fn build(mem: &mut [u64], n: u64, v: u64, words: u64, w: u64, x: u64) {
-    let mut i: u64 = 0;
-    while i < words {
-        put(&mut *mem, i, word_but(n, v, i, w, x));
-        i += 1;
-    }
-}
-
-// Memory of a variant, with x as word w, and words behind it that no call is lent.
-pub fn built(n: u64, v: u64, words: u64, w: u64, x: u64) -> [u64; 384] {
-    let mut mem = [0u64; 384];
-    build(&mut mem, n, v, words, w, x);
-    mem
 }

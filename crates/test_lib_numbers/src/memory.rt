@@ -1,124 +1,129 @@
 // The words of work memory that are due, by the map of docs/LAYOUT.md.
-use std::num::wrapping_add_u64;
-use test_lib_machine::picks::{next_bin, next_cell, ready};
-use test_lib_machine::sets::{
-    HELD, OPEN, bin_place, bins, cells, lags, members, of_cell, seed, stamp, state, sum, time,
-};
-use test_lib_rules::call::cell_words;
-use test_lib_rules::history::{IN_PHASE, QUADRATURE, VALID, registered};
+ghost use Rattle.std.specs.Prelude.{◌≤◌};
+
+use lta_spec::Loss;
+use test_lib_machine::cell::Cell;
+use test_lib_machine::machine::Machine;
+use test_lib_machine::sets::{Place, Set};
+use test_lib_rules::call::{cell_words, stored_command};
+use test_lib_rules::history::{Quantity, Sample, Samples};
 use test_lib_tools::bytes::PEAK;
-use test_lib_tools::words::{get, less};
 
-// Word j of the row of a set: ticks, edge and centre count, then I and Q of each lag, sum + 128 × ticks.
-pub fn row_word(m: &[u64], c: u64, p: u64, j: u64) -> u64 {
-    let ticks = members(m, c, p) % 4294967296;
-    match j {
-        0 => ticks,
-        1 => sum(m, c, p, 0, VALID),
-        2 => sum(m, c, p, lags(m) / 2, VALID),
-        _ => {
-            let what = if j % 2 == 1 { IN_PHASE } else { QUADRATURE };
-            wrapping_add_u64(sum(m, c, p, less(j, 3) / 2, what), PEAK * ticks)
+// The rows of a cell but its bins'.
+const ROWS: [Place; 8] = [
+    Place::Open,
+    Place::Held,
+    Place::Lost(Loss::Ordered),
+    Place::Lost(Loss::Overrun),
+    Place::Lost(Loss::Full),
+    Place::Lost(Loss::Replaced),
+    Place::Lost(Loss::Wide),
+    Place::Lost(Loss::Holdoff),
+];
+
+// The words of a row.
+fn row_words(n: u64) -> usize
+    ensures { 3 ≤ result }
+{
+    (n as usize).saturating_mul(2).saturating_add(3)
+}
+
+// Are these the words of the row of a set: ticks, edge and centre count, then I and Q of each lag, sum + 128 × ticks?
+fn is_row(cell: &Cell, place: Place, words: &[u64]) -> bool {
+    let Some((counts, lags)) = words.split_first_chunk() else {
+        return false;
+    };
+    let set = Set::Of(place);
+    let bias = cell.sets.members(set).wrapping_mul(PEAK);
+    let stored = |k: usize, quantity| cell.sum(set, k as u64, quantity).wrapping_add(bias);
+    let (pairs, _) = lags.as_chunks();
+    let sums = pairs.iter().enumerate().all(|(k, pair)| *pair
+        == [
+            stored(k, Quantity::InPhase),
+            stored(k, Quantity::Quadrature),
+        ]);
+    sums && *counts == cell.counts(set)
+}
+
+fn is_rows(cell: &Cell, words: &[u64]) -> bool {
+    words
+        .chunks_exact(row_words(cell.shape.lags))
+        .zip(ROWS)
+        .all(|(row, place)| is_row(cell, place, row))
+}
+
+// Are these the entries of a shift register, newest first?
+fn is_register<F: Fn(Samples) -> Sample>(cell: &Cell, of: F, words: &[u64]) -> bool
+    requires { F.IsAlwaysCallable of }
+{
+    let t = cell.sets.time();
+    words.iter().zip(1..).all(|(&word, delay)| {
+        let samples = cell.sampler.ago(t, delay);
+        word == samples.map_or(0, |samples| of(samples).entry())
+    })
+}
+
+// Are these those of X, and behind them those of Y?
+fn is_registers(cell: &Cell, words: &[u64]) -> bool {
+    let (xs, ys) = words.split_at(words.len() / 2);
+    is_register(cell, Samples::x, xs) && is_register(cell, Samples::y, ys)
+}
+
+// Are these the words of the bin at place q: its state, its stamp and its row?
+fn is_bin(cell: &Cell, q: u64, words: &[u64]) -> bool {
+    let slot = cell.slot(q);
+    match words {
+        [state, stamp, row @ ..] => {
+            *state == slot.state as u64 && *stamp == slot.stamp && is_row(cell, Place::Bin(q), row)
         }
+        _ => false,
     }
 }
 
-// The place whose row is number r of a cell's: Open, Held and the losses.
-fn row_place(r: u64) -> u64 {
-    match r {
-        0 => OPEN,
-        1 => HELD,
-        _ => less(r, 1),
-    }
+fn is_bins(cell: &Cell, words: &[u64]) -> bool {
+    words
+        .chunks_exact(row_words(cell.shape.lags).saturating_add(2))
+        .enumerate()
+        .all(|(q, bin)| is_bin(cell, q as u64, bin))
 }
 
-// Word i behind the rows: first the X register, then the Y register.
-fn register_word(m: &[u64], c: u64, i: u64) -> u64 {
-    let depth = lags(m) / 2 + 1;
-    registered(seed(m), c, i / depth, time(m), i % depth)
+// The ten fields: the last two are the number of Ready bins, and the place at which the next pick starts.
+fn fields(cell: &Cell) -> [u64; 10] {
+    [
+        u64::from(cell.occupied),
+        cell.label.command,
+        cell.label.bin.bank,
+        cell.label.bin.bin,
+        cell.open_stamp,
+        cell.held_stamp,
+        cell.block,
+        stored_command(cell.last),
+        cell.ready(),
+        cell.next_bin(),
+    ]
 }
 
-// Word i behind the registers: of each bin its state, its stamp and its row.
-fn bin_word(m: &[u64], c: u64, i: u64) -> u64 {
-    let width = 5 + 2 * (lags(m) % 256);
-    let k = i / width;
-    match i % width {
-        0 => state(m, c, k),
-        1 => stamp(m, c, k),
-        _ => row_word(m, c, bin_place(k), less(i % width, 2)),
-    }
+// Are these the words of a cell: fields, rows, registers and bins?
+fn is_cell(cell: &Cell, words: &[u64]) -> Option<bool> {
+    let (head, behind) = words.split_first_chunk()?;
+    let rows = row_words(cell.shape.lags).saturating_mul(8);
+    let (rows, behind) = behind.split_at_checked(rows)?;
+    let depth = (cell.shape.lags as usize / 2).saturating_add(1);
+    let (registers, bins) = behind.split_at_checked(depth.saturating_mul(2))?;
+    let state = *head == fields(cell) && is_registers(cell, registers);
+    Some(state && is_rows(cell, rows) && is_bins(cell, bins))
 }
 
-// Word i behind the rows.
-fn behind_rows(m: &[u64], c: u64, i: u64) -> u64 {
-    let registers = 2 * (lags(m) % 256 / 2 + 1);
-    if i < registers {
-        register_word(m, c, i)
-    } else {
-        bin_word(m, c, i - registers)
-    }
-}
-
-// Word i of the ten fields: the last two are the number of Ready bins, and the place at which the next pick starts.
-fn field(m: &[u64], c: u64, i: u64) -> u64 {
-    match i {
-        8 => ready(m, c),
-        9 => next_bin(m, c),
-        _ => of_cell(m, c, i),
-    }
-}
-
-// Word i behind the ten fields.
-fn behind_fields(m: &[u64], c: u64, i: u64) -> u64 {
-    let width = 3 + 2 * (lags(m) % 256);
-    if i < 8 * width {
-        row_word(m, c, row_place(i / width), i % width)
-    } else {
-        behind_rows(m, c, i - 8 * width)
-    }
-}
-
-// Word i of a cell.
-fn cell_word(m: &[u64], c: u64, i: u64) -> u64 {
-    if i < 10 {
-        field(m, c, i)
-    } else {
-        behind_fields(m, c, i - 10)
-    }
-}
-
-// Word i behind t: the cells, and behind them the cell at which the next pick starts.
-fn behind_time(m: &[u64], i: u64) -> u64 {
-    let width = cell_words(lags(m), bins(m));
-    if width == 0 {
-        return 0;
-    }
-    let c = i / width;
-    if c < cells(m) {
-        cell_word(m, c, i % width)
-    } else {
-        next_cell(m)
-    }
-}
-
-// Word i of work memory.
-fn word(m: &[u64], i: u64) -> u64 {
-    if i == 0 {
-        time(m)
-    } else {
-        behind_time(m, i - 1)
-    }
-}
-
-// How many words of work memory are not what is due.
-pub fn differ(mem: &[u64], m: &[u64], words: u64) -> u64 {
-    let mut wrong: u64 = 0;
-    let mut i: u64 = 0;
-    while i < words {
-        if get(mem, i) != word(m, i) {
-            wrong = wrapping_add_u64(wrong, 1);
-        }
-        i += 1;
-    }
-    wrong
+// Are these the words of work memory: t, the cells, and behind them the cell at which the next pick starts?
+pub fn is_due(m: &Machine, mem: &[u64]) -> bool {
+    let [time, cells @ .., next_cell] = mem else {
+        return false;
+    };
+    let width = cell_words(m.shape().lags, m.shape().bins) as usize;
+    let run = *time == m.time() && *next_cell == m.next_cell();
+    run && m
+        .cells()
+        .iter()
+        .zip(cells.chunks_exact(width))
+        .all(|(cell, words)| is_cell(cell, words).unwrap_or(false))
 }

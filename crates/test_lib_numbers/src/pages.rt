@@ -1,41 +1,31 @@
 // The page that is due, from the sets of the losses.
-use crate::memory::row_word;
-use std::num::wrapping_add_u64;
-use test_lib_machine::sets::{LEDGER, cells};
-use test_lib_rules::page;
-use test_lib_tools::words::put;
+use test_lib_machine::machine::Machine;
+use test_lib_machine::sets::{Place, Set};
+use test_lib_rules::call::LOSSES;
+use test_lib_rules::page::{LINES_OF_A_CELL, added, is_page, totals};
 
 // The numbers of the lines: "cells ascending, losses 1 to 6 within a cell".
-fn fill(m: &[u64], numbers: &mut [u64]) {
-    let end = 3 * (page::lines(cells(m)) % 256);
-    let mut i: u64 = 0;
-    while i < end {
-        put(&mut *numbers, i, row_word(m, i / 18, i / 3 % 6 + 1, i % 3));
-        i += 1;
+fn fill(m: &Machine, lines: &mut [[u64; 3]]) {
+    let of_cells = lines.chunks_exact_mut(LINES_OF_A_CELL);
+    for (cell, of_cell) in m.cells().iter().zip(of_cells) {
+        for (&loss, line) in LOSSES.iter().zip(of_cell) {
+            *line = cell.counts(Set::Of(Place::Lost(loss)));
+        }
     }
 }
 
-// "the sums over the ledger of the run": number j of every tick that any cell lost.
-fn ledger(m: &[u64], j: u64) -> u64 {
-    let count = cells(m);
-    let mut sum: u64 = 0;
-    let mut c: u64 = 0;
-    while c < count {
-        sum = wrapping_add_u64(sum, row_word(m, c, LEDGER, j));
-        c += 1;
-    }
-    sum
+// "the sums over the ledger of the run": the numbers of every tick that any cell lost.
+fn ledger(m: &Machine) -> [u64; 3] {
+    let cells = m.cells().iter();
+    cells.fold([0; 3], |sums, cell| added(sums, cell.counts(Set::Ledger)))
 }
 
-// "The totals equal the sums of the lines and also the sums over the ledger of the run."
-fn total_right(m: &[u64], numbers: &[u64], j: u64) -> bool {
-    page::total(numbers, cells(m), j) == ledger(m, j)
-}
-
-// Is the buffer the page, and behind it what stood there before?
-pub fn page_right(m: &[u64], out: &[u8]) -> bool {
-    let mut numbers = [0u64; 288];
-    fill(m, &mut numbers);
-    let counts = total_right(m, &numbers, 1) & total_right(m, &numbers, 2);
-    total_right(m, &numbers, 0) & counts & page::right(&numbers, cells(m), out)
+// Is the buffer the page, and behind it what stood there before? "The totals equal the sums of the lines and also the
+// sums over the ledger of the run."
+pub fn is_due(m: &Machine, out: &[u8]) -> bool {
+    let mut room = [[0; 3]; 96];
+    fill(m, &mut room);
+    let count = m.cells().len().saturating_mul(LINES_OF_A_CELL);
+    let lines = room.get(..count).unwrap_or(&room);
+    totals(lines) == ledger(m) && is_page(lines, out)
 }

@@ -1,129 +1,141 @@
 // One call on memory that the test has set: its answer, what it wrote, and every word afterwards are held to what the
-// papers say of those words.
+// papers say of those words. Rows of such calls make up groups, whose lines a program prints.
 #![tactic(auto)]
 
-use lta_spec::Shape;
-use std::num::wrapping_sub_u64;
-use test_lib_after::after::right;
-use test_lib_after::frames::frame_right;
-use test_lib_after::pages::page_right;
+use lta_spec::{Shape, Sums};
+use std::io;
+use test_lib_after::after::is_right;
+use test_lib_after::frames::is_frame;
+use test_lib_after::pages::is_page;
 use test_lib_calls::ask;
-use test_lib_calls::ask::Numbers;
+use test_lib_memory::base::Memory;
+use test_lib_memory::cells::Run;
 use test_lib_memory::due::says;
-use test_lib_memory::map::{cell_of, loss};
-use test_lib_memory::picks::taken;
-use test_lib_rules::call::{ACCEPTED, Call, DUMP, EMIT, FORECAST, PAGE, PICK, READING, frame_kind};
-use test_lib_tools::bytes::{PEAK, fill_pattern, kept};
-use test_lib_tools::report::{Tally, row};
-use test_lib_tools::words::{digest, get, less, tail, times};
+use test_lib_memory::map::Set;
+use test_lib_rules::call::{Answer, Call, LOSSES, Op};
+use test_lib_rules::history::Samples;
+use test_lib_tools::bytes::{PEAK, fill_pattern, is_kept};
+use test_lib_tools::report::{Tally, line};
 
-// A tick in which every cell gets the bytes a and b, and the call's two low bits of validity; an integration.
-fn moves(s: Shape, mem: &mut [u64], k: Call) -> u64 {
-    let x = (k.a % 256) as u8;
-    let y = (k.b % 256) as u8;
-    let v = (k.validity % 4) as u8;
-    let mut samples = [x, y, v, x, y, v, x, y, v];
-    ask::moves(s, mem, k, &mut samples)
+// Samples of three cells that get the same bytes, with the two low bits of the validity byte.
+fn samples_of(Samples { x, y, validity }: Samples) -> [u8; 9] {
+    let v = validity % 4;
+    [x, y, v, x, y, v, x, y, v]
 }
 
-// Is the frame or the page right; or, where the call is refused or is a dump that writes no frame, is no byte of the
-// buffer written?
-fn buffer_right(s: Shape, old: &[u64], k: Call, out: &[u8], due: u64) -> bool {
-    if (due >= ACCEPTED) & (k.kind == PAGE) {
-        return page_right(s, old, out);
+// The numbers of a loss at a lag.
+fn sums(old: &Run<'_>, cell: u64, lag: u64, loss: u64) -> Option<Sums> {
+    let &loss = LOSSES.get(loss.checked_sub(1)? as usize)?;
+    let row = old.cell(cell).row(Set::Lost(loss));
+    let bias = row.ticks().wrapping_mul(PEAK);
+    let at = lag.saturating_mul(2);
+    Some(Sums {
+        i: row.sum(at).wrapping_sub(bias).cast_signed(),
+        q: row
+            .sum(at.saturating_add(1))
+            .wrapping_sub(bias)
+            .cast_signed(),
+        ticks: row.ticks(),
+        edge: row.edge(),
+        centre: row.centre(),
+    })
+}
+
+// A call on words of work memory, and what it is to answer; of one that is accepted, the words as a run.
+#[derive(Clone, Copy)]
+struct Trial<'a> {
+    shape: Shape,
+    old: &'a [u64],
+    call: Call,
+    due: Answer,
+    run: Option<Run<'a>>,
+}
+
+impl Trial<'_> {
+    // Does the call answer what is due? A reading that is accepted answers with its numbers.
+    fn answers(&self, mem: &mut [u64], out: &mut [u8]) -> bool {
+        let k = self.call;
+        match (k.op, &self.run) {
+            (Op::Reading { lag, loss }, Some(run)) => {
+                ask::reading(self.shape, mem, k, lag, loss).ok() == sums(run, k.cell, lag, loss)
+            }
+            (Op::Reading { lag, loss }, None) => {
+                ask::reading(self.shape, mem, k, lag, loss).err() == self.due.err()
+            }
+            (Op::Tick(samples), _) => {
+                ask::told(self.shape, mem, k, &mut samples_of(samples)) == Some(self.due)
+            }
+            _ => ask::told(self.shape, mem, k, out) == Some(self.due),
+        }
     }
-    if (due >= ACCEPTED) & (frame_kind(k) != 0) {
-        frame_right(s, old, k, out)
-    } else {
-        kept(out, 0)
+
+    // Is the buffer the frame or the page that the call writes; or, where it writes none, is no byte written?
+    fn writes(&self, out: &[u8]) -> bool {
+        match (&self.run, self.call.op, self.call.op.frame()) {
+            (Some(run), Op::Page, _) => is_page(run, out),
+            (Some(run), _, Some(kind)) => is_frame(run, self.call, kind, out),
+            _ => is_kept(out, 0),
+        }
     }
-}
 
-// A dump, an emission or a pick with its frame, or a page with its lines.
-fn writes(s: Shape, mem: &mut [u64], old: &[u64], k: Call, due: u64) -> bool {
-    let mut out = [0u8; 1300];
-    fill_pattern(&mut out);
-    let told = ask::writes(s, mem, k, &mut out) == due;
-    told & buffer_right(s, old, k, &out, due)
-}
-
-// A stored sum as a number in two's complement.
-fn sum(set: &[u64], j: u64) -> u64 {
-    wrapping_sub_u64(get(set, j), times(get(set, 0), PEAK))
-}
-
-// The numbers of a row of memory at a lag.
-fn numbers(set: &[u64], lag: u64) -> Numbers {
-    let j = 3 + 2 * (lag % 256);
-    Numbers {
-        i: sum(set, j),
-        q: sum(set, j + 1),
-        ticks: get(set, 0),
-        edge: get(set, 1),
-        centre: get(set, 2),
+    // Are the words as they are due: as they were where the call is refused?
+    fn leaves(&self, mem: &[u64]) -> bool {
+        match &self.run {
+            Some(run) => is_right(&Run { words: mem, ..*run }, run, self.call),
+            None => mem == self.old,
+        }
     }
-}
 
-// A reading, with its numbers: those of the loss.
-fn reads(s: Shape, mem: &[u64], k: Call, due: u64) -> bool {
-    if due < ACCEPTED {
-        return ask::reading_is(s, mem, k, due);
+    // All three, with such a buffer.
+    fn agrees_in(&self, mem: &mut [u64], out: &mut [u8]) -> bool {
+        fill_pattern(out);
+        self.answers(mem, out) && self.writes(out) && self.leaves(mem)
     }
-    let cell = cell_of(mem, s.lags, s.bins, k.cell);
-    let set = tail(cell, test_lib_memory::map::row(s.lags, loss(k.b)));
-    ask::reads(s, mem, k, numbers(set, k.a))
-}
 
-// Does the call answer what is due?
-fn answers(s: Shape, mem: &mut [u64], old: &[u64], k: Call, due: u64) -> bool {
-    let kind = k.kind;
-    match kind {
-        DUMP | EMIT | PAGE | PICK => writes(s, mem, old, k, due),
-        READING => reads(s, mem, k, due),
-        FORECAST => ask::forecast(s, mem, k) == due,
-        _ => moves(s, mem, k) == due,
+    // With as many bytes as such a call may be lent.
+    fn agrees(&self, mem: &mut [u64]) -> bool {
+        match self.call.op {
+            Op::Dump { .. } | Op::Emit(_) | Op::Page | Op::Pick(_) => {
+                self.agrees_in(mem, &mut [0; 1300])
+            }
+            _ => self.agrees_in(mem, &mut []),
+        }
     }
-}
-
-// Are the words as they are due: as they were where the call is refused?
-fn leaves(s: Shape, mem: &[u64], old: &[u64], k: Call, due: u64) -> bool {
-    if due < ACCEPTED {
-        digest(mem) == digest(old)
-    } else {
-        right(
-            mem,
-            old,
-            s.lags,
-            s.bins,
-            s.blocks,
-            s.cells,
-            k,
-            less(due, ACCEPTED),
-        )
-    }
-}
-
-// The call; a pick that is accepted gets the bin that it takes.
-fn with_bin(s: Shape, old: &[u64], k: Call, due: u64) -> Call {
-    if due < ACCEPTED { k } else { taken(s, old, k) }
 }
 
 // The call on `mem`, whose words are those of `old`, answers `due`, which is also what the model says, and leaves what
-// is due.
-pub fn agrees(s: Shape, mem: &mut [u64], old: &[u64], call: Call, due: u64) -> bool {
-    let k = with_bin(s, old, call, due);
-    let told = answers(s, &mut *mem, old, k, due) & (says(s, old, k) == due);
-    told & leaves(s, mem, old, k, due)
+// is due. A pick that is accepted gets the bin that it takes.
+pub fn agrees(shape: Shape, mem: &mut [u64], old: &[u64], call: Call, due: Answer) -> bool {
+    let run = Run::of(shape, old).filter(|_| due.is_ok());
+    let call = run.map_or(call, |run| run.taken(call));
+    let trial = Trial {
+        shape,
+        old,
+        call,
+        due,
+        run,
+    };
+    trial.agrees(mem) && says(shape, old, call) == due
 }
 
 // A row: the call on these words answers `due`.
-pub fn held_to(t: Tally, s: Shape, old: [u64; 384], k: Call, due: u64) -> Tally {
-    let mut mem = old;
-    let so = agrees(s, &mut mem, &old, k, due);
-    row(t, so, due < ACCEPTED)
+pub fn held_to(t: &mut Tally, s: Shape, old: &Memory, k: Call, due: Answer) {
+    let mut mem = *old;
+    let agrees = agrees(s, &mut mem, old, k, due);
+    t.row(agrees, due.is_err());
 }
 
 // A row in which the model alone says what is due.
-pub fn modelled(t: Tally, s: Shape, old: [u64; 384], k: Call) -> Tally {
-    held_to(t, s, old, k, says(s, &old, k))
+pub fn modelled(t: &mut Tally, s: Shape, old: &Memory, k: Call) {
+    held_to(t, s, old, k, says(s, old, k));
+}
+
+// The lines of some groups, and their rows together.
+pub fn lines(rt: &impl Print, n: u64, groups: &[(&str, Tally)]) -> io::Result<Tally> {
+    let mut total = Tally::default();
+    for (name, tally) in groups {
+        line(rt, n, name, tally)?;
+        total.include(tally);
+    }
+    Ok(total)
 }

@@ -1,135 +1,129 @@
 // The test's own reading and writing of a frame's bytes, after the papers and not after the code that is tested.
 // Nothing here asks anything of its caller: past the end a byte reads as 0, and a store does nothing.
+ghost use Rattle.std.specs.Prelude.{◌≤◌};
 
 // Byte i.
 pub fn get(s: &[u8], i: usize) -> u8 {
-    if i < s.len() { s[i] } else { 0 }
+    s.get(i).copied().unwrap_or(0)
 }
 
 // v as byte i.
 pub fn put(s: &mut [u8], i: usize, v: u8) {
-    if i < s.len() {
-        s[i] = v;
+    if let Some(byte) = s.get_mut(i) {
+        *byte = v;
     }
 }
 
-// The first n bytes.
+// The first n bytes, or all where there are fewer.
 pub fn head(s: &[u8], n: usize) -> &[u8] {
-    if n <= s.len() { &s[0..n] } else { s }
-}
-
-// Four bytes as a word, "low byte first".
-fn join(a: u8, b: u8, c: u8, d: u8) -> u32 {
-    (a as u32) | ((b as u32) << 8) | ((c as u32) << 16) | ((d as u32) << 24)
+    s.get(..n).unwrap_or(s)
 }
 
 // The word whose low byte is byte a.
 pub fn word_at(s: &[u8], a: usize) -> u32 {
-    let i = a % 4096;
-    if i + 3 < s.len() {
-        join(s[i], s[i + 1], s[i + 2], s[i + 3])
-    } else {
-        0
+    let behind = s.get(a..).unwrap_or(&[]);
+    match behind.first_chunk() {
+        Some(bytes) => u32::from_le_bytes(*bytes),
+        None => 0,
     }
+}
+
+// The byte with which word k behind the mark begins.
+fn byte_of(k: usize) -> usize {
+    k.saturating_mul(4).saturating_add(2)
 }
 
 // Word k behind the mark.
 pub fn word(s: &[u8], k: usize) -> u32 {
-    word_at(s, 2 + 4 * (k % 1000))
-}
-
-// Two bytes, the low one first, from byte a on.
-fn put_half(s: &mut [u8], a: usize, h: u32) {
-    put(&mut *s, a, (h % 256) as u8);
-    put(s, a % 4096 + 1, ((h >> 8) % 256) as u8);
+    word_at(s, byte_of(k))
 }
 
 // w as word k behind the mark.
 pub fn put_word(s: &mut [u8], k: usize, w: u32) {
-    let a = 2 + 4 * (k % 1000);
-    put_half(&mut *s, a, w);
-    put_half(s, a + 2, w >> 16);
+    let a = byte_of(k);
+    for (i, byte) in w.to_le_bytes().into_iter().enumerate() {
+        put(s, a.saturating_add(i), byte);
+    }
 }
 
 // The sum of the words from a up to e, "wrapping at 32 bits".
 pub fn sum(s: &[u8], a: usize, e: usize) -> u32 {
-    let mut total: u32 = 0;
-    let mut k = a;
-    while k < e {
-        total = std::num::wrapping_add_u32(total, word(s, k));
-        k += 1;
-    }
-    total
-}
-
-// The kinds of frames, W0 bits 0-2: of the accumulator, and a speed frame.
-pub const BINNED: u64 = 2;
-
-pub const SPEED: u64 = 3;
-
-// The header words: W0 to W6, and in a speed frame DATA_BIAS, which "stands between W6 and the lags".
-pub fn heads(kind: u64) -> usize {
-    if kind == SPEED { 8 } else { 7 }
+    (a..e).fold(0, |total: u32, k| total.wrapping_add(word(s, k)))
 }
 
 // The most that a tick adds to a sum in size, -8 × -8 × 2: "Every 98 in document 01 and in the speed frame becomes
 // 128".
 pub const PEAK: u64 = 128;
 
-// How many lag numbers a frame has.
-pub fn twice(n: u64) -> usize {
-    if n <= 200 { (2 * n) as usize } else { 0 }
+// The kinds of frames, W0 bits 0-2: of the accumulator, and a speed frame.
+#[derive(Clone, Copy, Debug, PartialEq, Eq)]
+pub enum Kind {
+    Binned = 2,
+    Speed = 3,
 }
 
-// "Length 34 + 8N bytes"; of a speed frame "Its length is 38 + 8N".
-pub fn length(n: u64, kind: u64) -> usize {
-    let pairs = 4 * (twice(n) % 512);
-    if kind == SPEED {
-        38 + pairs
-    } else {
-        34 + pairs
+impl Kind {
+    pub fn number(self) -> u64 {
+        self as u64
+    }
+
+    // The header words: W0 to W6, and in a speed frame DATA_BIAS, which "stands between W6 and the lags".
+    pub fn heads(self) -> usize
+        ensures { result ≤ 8 }
+    {
+        match self {
+            Kind::Binned => 7,
+            Kind::Speed => 8,
+        }
+    }
+
+    // "Length 34 + 8N bytes"; of a speed frame "Its length is 38 + 8N".
+    pub fn length(self, n: u64) -> usize
+        ensures { result ≤ 1638 }
+    {
+        let shortest = match self {
+            Kind::Binned => 34,
+            Kind::Speed => 38,
+        };
+        shortest + 4 * twice(n)
+    }
+
+    // The number of the last word, behind the header words and N pairs.
+    pub fn last(self, n: u64) -> usize
+        ensures { result ≤ 408 }
+    {
+        self.heads() + twice(n)
+    }
+
+    // The byte with which the pairs begin, behind the mark and the header words.
+    pub fn lags_at(self) -> usize
+        ensures { result ≤ 34 }
+    {
+        2 + 4 * self.heads()
+    }
+
+    // "Last: sum of all words before it".
+    pub fn is_summed(self, s: &[u8], n: u64) -> bool {
+        let k = self.last(n);
+        word(s, k) == sum(s, 0, k)
+    }
+
+    // Are mark and last word those of a frame, and is nothing written behind it?
+    pub fn is_framed(self, s: &[u8], n: u64) -> bool {
+        is_marked(s) && self.is_summed(s, n) && is_kept(s, self.length(n))
     }
 }
 
-// The number of the last word, behind the header words and N pairs.
-pub fn last(n: u64, kind: u64) -> usize {
-    heads(kind) % 16 + twice(n) % 512
-}
-
-// The byte with which the pairs begin, behind the mark and the header words.
-pub fn lags_at(kind: u64) -> usize {
-    2 + 4 * (heads(kind) % 16)
+// How many lag numbers a frame has; none where N is far past its limit.
+pub fn twice(n: u64) -> usize
+    ensures { result ≤ 400 }
+{
+    if n <= 200 { 2 * n as usize } else { 0 }
 }
 
 // "Two mark bytes 4Ch 54h".
-pub fn marked(s: &[u8]) -> bool {
-    (get(s, 0) == 0x4c) & (get(s, 1) == 0x54)
-}
-
-// "Last: sum of all words before it".
-pub fn summed(s: &[u8], n: u64, kind: u64) -> bool {
-    let k = last(n, kind);
-    word(s, k) == sum(s, 0, k)
-}
-
-// Mark and last word of a frame, behind which nothing is written.
-pub fn framed(s: &[u8], n: u64, kind: u64) -> bool {
-    marked(s) & summed(s, n, kind) & kept(s, length(n, kind))
-}
-
-// The word of minus x, in two's complement.
-pub fn minus(x: u32) -> u32 {
-    std::num::wrapping_sub_u32(0, x)
-}
-
-// The number of a word in two's complement: of 4294967295 - w the bits are those of w turned round.
-pub fn signed(w: u32) -> i32 {
-    if w < 2147483648 {
-        w as i32
-    } else {
-        let turned = (4294967295 - w) as i32;
-        !turned
-    }
+pub fn is_marked(s: &[u8]) -> bool {
+    s.starts_with(&[0x4c, 0x54])
 }
 
 // What stands in byte i of a buffer that nobody has written yet.
@@ -139,21 +133,15 @@ fn pattern(i: usize) -> u8 {
 
 // The pattern in every byte.
 pub fn fill_pattern(s: &mut [u8]) {
-    let mut i: usize = 0;
-    while i < s.len() {
-        put(&mut *s, i, pattern(i));
-        i += 1;
+    for (i, byte) in s.iter_mut().enumerate() {
+        *byte = pattern(i);
     }
 }
 
 // Does the pattern still stand in every byte from a on?
-pub fn kept(s: &[u8], a: usize) -> bool {
-    let mut ok = true;
-    let mut i = a;
-    while i < s.len() {
-        let here = get(s, i) == pattern(i);
-        ok = ok & here;
-        i += 1;
-    }
-    ok
+pub fn is_kept(s: &[u8], a: usize) -> bool {
+    s.iter()
+        .enumerate()
+        .skip(a)
+        .all(|(i, &byte)| byte == pattern(i))
 }

@@ -4,37 +4,14 @@
 
 mod rounds;
 
-use test_lib_tools::report::{Tally, line, verdict};
-use test_lib_tools::words::get;
+use std::io;
+use test_lib_row::lines;
 
-// How many rows a group has; each may count as some.
-const ROWS: [u64; 3] = [4096, 64, 12];
-
-// Row i of group g.
-fn one(t: Tally, g: u64, i: u64) -> Tally {
-    match g {
-        0 => rounds::choices(t, i),
-        1 => rounds::all(t, i),
-        _ => rounds::rounds(t, i),
-    }
-}
-
-fn rows(g: u64) -> Tally {
-    let end = get(&ROWS, g);
-    let mut t: Tally = 0;
-    let mut i: u64 = 0;
-    while i < end {
-        t = one(t, g, i);
-        i += 1;
-    }
-    t
-}
-
-fn shown(failed: u64, g: u64) -> u64 {
-    line(failed, 2, b"choices all     rounds  ", g, rows(g))
-}
-
-fn main() {
-    let all = shown(shown(0, 0), 1);
-    verdict(shown(all, 2));
+fn main(rt: HostRuntime) -> io::Result<()> {
+    let groups = [
+        ("choices", rounds::choices()),
+        ("all", rounds::all()),
+        ("rounds", rounds::longest()),
+    ];
+    lines(&rt, 2, &groups)?.verdict(&rt)
 }

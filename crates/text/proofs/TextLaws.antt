@@ -1,14 +1,14 @@
--- Text that is put into a buffer: digits from the right, spaces, bytes.
+-- Text that is put into a buffer: digits from the right, how many a number has, and spaces.
 use Prim.Native.Nat.{ℕ, suc, ◌+◌, ◌-◌, ◌/◌, ◌%◌, ◌≤◌, ◌<◌}
 use mathlib.Core.Path.{◌≡◌, sym, ap, ◌∙◌}
 use mathlib.Core.List.{List, [], ◌∷◌, ◌++◌, append-nil}
 use native.Mathlib.Omega.{arith}
-use native.Mathlib.Numerals.{add-one}
-use lib.ListN.{length, get_or, set, take, replicate, length-append, length-replicate, replicate-append-replicate}
-use lib.Seq.{append_snoc, take-suc, length-take-le}
+use lib.ListN.{length, set, replicate, take, drop, length-append, length-replicate, length-take, length-drop}
+use lib.Seq.{append_snoc}
+use borrow.Rule.Slice.PartMut.{put_mid}
 use Rattle.lta_spec.specs.Words.{splice}
 use Rattle.lta_spec.specs.Decimal.{space, digit, decimal, right_aligned}
-use Rattle.lta_spec.proofs.WordLaws.{splice-nil, splice_front, set-splice-next, set-splice-front}
+use Rattle.lta_spec.proofs.WordLaws.{splice-nil, splice_front, set-splice-front, returned}
 use Rattle.lta_spec.proofs.DecimalLaws.{decimal-one, decimal-next, some-digit}
 
 -- the last digits of n stand in front of `end` from `at` on; those of rest are still to be put
@@ -64,40 +64,24 @@ module _ (before : List ℕ) (end n at rest : ℕ) (out : List ℕ) (p : Put bef
         store (digit rest) ∙ ap (splice before (at - 1)) (sym all),
       )
 
--- digits counted: as many as are left and as were passed
-pub count_next : (n rest k : ℕ) → k + length (decimal rest) ≡ length (decimal n) + 1 → 10 ≤ rest
-    → k + 1 + length (decimal (rest / 10)) ≡ length (decimal n) + 1
-count_next n rest k e many =
-    omega (
-      arith,
-      e,
-      ap length (decimal-next rest many),
-      length-append (decimal (rest / 10)) (digit (rest % 10) ∷ []),
-    )
+-- how many digits
+pub digits-one : (n : ℕ) → n < 10 → length (decimal n) ≡ 1
+digits-one n h = ap length (decimal-one n h)
 
-pub count-last : (n rest k : ℕ) → k + length (decimal rest) ≡ length (decimal n) + 1 → rest < 10
-    → k ≡ length (decimal n)
-count-last n rest k e few = omega (arith, e, ap length (decimal-one rest few))
+pub digits-next : (n : ℕ) → 10 ≤ n → length (decimal n) ≡ length (decimal (n / 10)) + 1
+digits-next n h =
+    ap length (decimal-next n h) ∙ length-append (decimal (n / 10)) (digit (n % 10) ∷ [])
 
--- one space more
-pub space-next : (before : List ℕ) (at i : ℕ) → at ≤ i
-    → set (splice before at (replicate (i - at) space)) i space ≡ splice before at (replicate (i + 1 - at) space)
-space-next before at i h =
-    let k = i - at in
-    let here : i ≡ at + length (replicate k space) = omega (arith, length-replicate k space) in
-    let more : k + 1 ≡ i + 1 - at = omega arith in
-    ap (λ j. set (splice before at (replicate k space)) j space) here
-    ∙ set-splice-next before at (replicate k space) space
-    ∙ ap (splice before at) (replicate-append-replicate k 1 space ∙ ap (λ m. replicate m space) more)
-
--- one byte more
-pub byte_next : (before : List ℕ) (at : ℕ) (bytes : List ℕ) (i : ℕ) → i < length bytes
-    → set (splice before at (take i bytes)) (at + i) (get_or bytes i 0) ≡ splice before at (take (i + 1) bytes)
-byte_next before at bytes i h =
-    let here : at + i ≡ at + length (take i bytes) = omega (arith, length-take-le i bytes (omega arith)) in
-    ap (λ j. set (splice before at (take i bytes)) j (get_or bytes i 0)) here
-    ∙ set-splice-next before at (take i bytes) (get_or bytes i 0)
-    ∙ ap (splice before at) (sym (take-suc bytes i 0 h) ∙ ap (λ j. take j bytes) (sym (add-one i)))
+-- a part that was filled with spaces
+pub part-filled : (l : List ℕ) (at end : ℕ) {vs : List ℕ} → at ≤ end → end ≤ length l
+    → vs ≡ replicate (length (take (end - at) (drop at l))) space
+    → put_mid at (end - at) l vs ≡ splice l at (replicate (end - at) space)
+part-filled l at end h inside filled =
+    let n = end - at in
+    let part : length (take n (drop at l)) ≡ n = simp (length-take, length-drop) (omega arith) in
+    let all : at + n - at ≡ n = omega arith in
+    rw (filled, part)
+    (rw all at (returned l at n (replicate n space) (omega arith) (length-replicate n space)))
 
 -- a number behind spaces
 pub right-put : (before : List ℕ) (at w n start : ℕ) → start + length (decimal n) ≡ at + w → length (decimal n) ≤ w

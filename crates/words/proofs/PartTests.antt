@@ -1,5 +1,5 @@
 -- Laws of tests over the words of a part.
-use Rattle.std.proofs.Common.{◌≡◌, ℕ, suc, ◌+◌, ◌*◌, ◌%◌, ◌^◌, ◌<◌, ◌≤◌, Bool, true, false, ◌&&◌, ltb, leb, ◌⊎◌, List, [], ◌∷◌, length, get_or, drop, sym, refl, ap, ◌∙◌, inl, inr, ⊎_elim, add-zero, arith, length-drop, length-take-le, get_or-drop, drop-drop, take-add, drop_at, ltb-false, ltb-true, le-ltb, lt-ltb, le-leb, leb-true}
+use Rattle.std.proofs.Common.{◌≡◌, ℕ, ◌+◌, ◌-◌, ◌*◌, ◌%◌, ◌^◌, ◌<◌, ◌≤◌, Bool, true, false, ◌&&◌, ltb, leb, ◌⊎◌, List, [], ◌∷◌, length, get_or, drop, sym, refl, ap, ◌∙◌, inl, inr, ⊎_elim, add-zero, arith, length-drop, length-take-le, drop-drop, take-add, drop_at, ltb-false, ltb-true, le-ltb, lt-ltb, le-leb, leb-true, suc, get_or-drop}
 use mathlib.Core.Bool.{and_assoc}
 use lib.Bits.{bit_or, or_add_and, and_le_r, or_lt, or_comm}
 use borrow.Author.Tests.{lt-leb}
@@ -79,23 +79,26 @@ or-below a b =
     (λ h. rw (le-ltb a top h) (le-ltb (bit_or a b) top (omega (arith, or_above a b))))
     (lt-or-ge a top)
 
--- where y is b - x, wrapping, neither has its top bit exactly where x is at most b
-top-bits : (x y b : ℕ) → x < 2 ^ 64 → y < 2 ^ 64 → b < top → (y + x) % 2 ^ 64 ≡ b
-    → ltb x top && ltb y top ≡ leb x b
-top-bits x y b hx hy hb e =
+-- b less x, wrapping
+abbrev pub less : (b x : ℕ) → ℕ
+less b x = (b + (2 ^ 64 - x)) % 2 ^ 64
+
+-- neither x nor b less x has its top bit exactly where x is at most b
+top-bits : (x b : ℕ) → x < 2 ^ 64 → b < top → ltb x top && ltb (less b x) top ≡ leb x b
+top-bits x b hx hb =
     ⊎_elim
     (λ h. rw (lt-leb x b h)
-    (⊎_elim (λ k. rw (lt-ltb x top k, le-ltb y top (omega arith))) (λ k. rw (le-ltb x top k)) (lt-or-ge x top)))
-    (λ h. rw (lt-ltb x top (omega arith), lt-ltb y top (omega arith)) (sym (le-leb x b h)))
+    (⊎_elim (λ k. rw (lt-ltb x top k, le-ltb (less b x) top (omega arith))) (λ k. rw (le-ltb x top k))
+    (lt-or-ge x top)))
+    (λ h. rw (lt-ltb x top (omega arith), lt-ltb (less b x) top (omega arith)) (sym (le-leb x b h)))
     (lt-or-ge b x)
 
 -- a turn of the loop that gathers the top bits
-pub wide-next : (acc x y b : ℕ) → x < 2 ^ 64 → y < 2 ^ 64 → b < top → (y + x) % 2 ^ 64 ≡ b
-    → ltb (bit_or (bit_or acc x) y) top ≡ ltb acc top && leb x b
-wide-next acc x y b hx hy hb e =
-    or-below (bit_or acc x) y ∙ ap (λ (r : Bool). r && ltb y top) (or-below acc x)
-    ∙ and_assoc (ltb acc top) (ltb x top) (ltb y top)
-    ∙ ap (λ (r : Bool). ltb acc top && r) (top-bits x y b hx hy hb e)
+pub wide-next : (bits x b : ℕ) → x < 2 ^ 64 → b < top
+    → ltb (bit_or bits (bit_or x (less b x))) top ≡ ltb bits top && leb x b
+wide-next bits x b hx hb =
+    or-below bits (bit_or x (less b x))
+    ∙ ap (λ (r : Bool). ltb bits top && r) (or-below x (less b x) ∙ top-bits x b hx hb)
 
 -- words at most a are at most a number that is not below it
 pub every-wider : (a b : ℕ) → a ≤ b → (l : List ℕ) → every (at_most a) l ≡ true → every (at_most b) l ≡ true

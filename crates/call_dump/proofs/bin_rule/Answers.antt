@@ -24,6 +24,6 @@ overflow_mul-result c =
     mul-le-mul {n₂ = 1001} {m₂ = 256} (omega arith) (omega (arith, k.blocks)) in
     omega arith
 
-pub returns : goal.returns
+pub returns-else-phase-gt1000 : goal.returns-else-phase-gt1000
 unfolding phase_ok
-returns c = simp (add-one)
+returns-else-phase-gt1000 c = simp (add-one)

@@ -1,6 +1,7 @@
 -- The block counter's step, then a dump by the label with its block.
 use native.Mathlib.Omega.{arith}
 use Prim.Native.Nat.{◌+◌, ◌*◌, ◌<◌}
+use Rattle.cell_layout.proofs.ViewLaws.{fits_by}
 use Rattle.cell_block.proofs.CounterLaws.{still-fits}
 use Rattle.lta_spec.proofs.Passed.{dump-tested}
 use Rattle.call_dump.proofs.Counted.{still-sound, dumped}
@@ -11,12 +12,12 @@ use Rattle.call_dump.proofs.dump_unit.Goals.{After-slice_known-2-1}
 numbered : (c : After-slice_known-2-1) → let a = c.args in
     a.phase * a.blocks + c.count_block-offset.result < 1000
 numbered c =
-    omega (arith, c.requires.1.1, c.requires.0.0.bins, c.count_block-offset.ensures.offset)
+    omega (arith, c.requires.1.1, c.args.shape.few_bins, c.count_block-offset.ensures.offset)
 
 pub count_block-offset-requires : goal.count_block-offset-requires
 count_block-offset-requires c =
     let a = c.args in
-    (c.requires.0, (dump-tested a.n a.bins a.blocks a.t a.command _ c.requires.1.0).0)
+    (c.requires.0, (dump-tested a.shape.lags a.shape.bins a.blocks a.t a.command _ c.requires.1.0).0)
 
 pub overflow_mul-bin : goal.overflow_mul-bin
 overflow_mul-bin c = omega (arith, numbered (goal.at.overflow_mul-bin c).After-slice_known-2-1)
@@ -28,13 +29,13 @@ pub dump_cell-requires : goal.dump_cell-requires
 dump_cell-requires c =
     let a = c.args in
     let k = c.count_block-offset.ensures in (
-      still-fits c.requires.0.0 k,
-      still-sound c.requires.0.0 k a.t
-          (dump-tested a.n a.bins a.blocks a.t a.command _ c.requires.1.0).1,
+      (still-fits (fits_by a.shape c.requires.0.0) k).size,
+      still-sound (fits_by a.shape c.requires.0.0) k a.t
+          (dump-tested a.shape.lags a.shape.bins a.blocks a.t a.command _ c.requires.1.0).1,
     )
 
 pub returns : goal.returns
 returns c =
     let a = c.args in
-    dumped c.requires.0.0 c.count_block-offset.ensures a.t a.bank
+    dumped (fits_by a.shape c.requires.0.0) c.count_block-offset.ensures a.t a.bank
     a.phase _ _ c.dump_cell.ensures

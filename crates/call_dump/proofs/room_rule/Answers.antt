@@ -4,4 +4,4 @@ use Rattle.call_dump.proofs.room_rule.Goals as goal
 
 pub returns : goal.returns
 unfolding dump_fits
-returns c = rw c.frame_length.ensures
+returns c = rw c.length.ensures

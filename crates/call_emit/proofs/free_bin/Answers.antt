@@ -2,36 +2,28 @@
 use mathlib.Core.Path.{ap₂}
 use Rattle.cell_layout.proofs.LaysLaws.{lays-to}
 use Rattle.cell_ready.specs.Taken.{taken}
-use Rattle.call_run.proofs.RunLaws.{shape_is}
+use Rattle.call_run.proofs.RunLaws.{shape-ok, length-is}
 use Rattle.call_run.proofs.LoanLaws.{loan-is, loan-unit}
 use Rattle.call_emit.proofs.free_bin.Goals as goal
 
-pub bin_number-k-requires : goal.bin_number-k-requires
-bin_number-k-requires c =
-    let q = c.requires.0 in
-    (q.1.banked, q.1.numbered, (shape_is c.args.s c.args.mem.now q.0.hosted).bins)
-
-pub cell_start-at-requires : goal.cell_start-at-requires
-cell_start-at-requires c = c.requires.0.0
-
-pub cell_words-requires : goal.cell_words-requires
-cell_words-requires c =
-    let h = shape_is c.args.s c.args.mem.now c.requires.0.0.hosted in
-    (h.lags, h.bins)
+pub invariant_of-run : goal.invariant_of-run
+invariant_of-run c =
+    let h = c.requires.0.0.hosted in record { shaped = shape-ok _ _ h; whole = length-is _ _ h }
 
 pub take_bin-requires : goal.take_bin-requires
 take_bin-requires c =
-    let l = loan-is c.requires.0.0 c.cell_start-at.ensures.is c.cell_words.ensures.0 in (
-      (l.fits, c.bin_number-k.ensures.below),
-      rw l.unit c.requires.1,
-    )
+    let k = c.cell_shape-shape.ensures in
+    let l = loan-is c.requires.0.0 c.cell_start-at.ensures.is c.cell_words.ensures in
+    let below = rw k.1 at c.bin_number-k.ensures.below in
+    rw (k.0, k.1) ((l.size, below), rw l.unit c.requires.1)
 
 pub returns : goal.returns
 returns c =
     let n = c.args.s.lags in
+    let s = c.cell_shape-shape.ensures in
     let at = c.cell_start-at.ensures.is in
-    let words = c.cell_words.ensures.0 in
-    let k = c.bin_number-k.ensures.is in
+    let words = c.cell_words.ensures in
+    let k = rw s.1 at c.bin_number-k.ensures.is in
     let unit = (loan-is c.requires.0.0 at words).unit in
     loan-unit c.requires.0.0 at words _ _
-    (lays-to c.take_bin.ensures (ap₂ (taken n) k unit))
+    (lays-to (rw (s.0, s.1) at c.take_bin.ensures) (ap₂ (taken n) k unit))

@@ -1,30 +1,12 @@
-use mathlib.Core.Path.{refl}
 use native.Mathlib.Omega.{arith}
 use Rattle.call_run.proofs.CellsLaws.{cells-next, cells-all}
+use Rattle.call_run.proofs.ViewLaws.{hosted_in}
 use Rattle.call_page.proofs.ledgers_sound.Goals as goal
 
-pub loop-c-init : goal.loop-c-init
-loop-c-init c = (omega arith, refl)
-
-pub cell_part-part-requires : goal.cell_part-part-requires
-cell_part-part-requires c = record { hosted = c.requires; there = omega arith }
-
-pub page_sound-sound-requires : goal.page_sound-sound-requires
-page_sound-sound-requires c = c.cell_part-part.ensures.fits
-
-pub overflow_add-c : goal.overflow_add-c
-overflow_add-c c = omega arith
-
-pub loop-c-smaller : goal.loop-c-smaller
-loop-c-smaller c = omega arith
-
 pub loop-c-preserved : goal.loop-c-preserved
-loop-c-preserved c = (
-  omega arith,
-  cells-next _ _ c.requires _ c.loop-c.c (omega arith) c.cell_part-part.ensures c.loop-c.invariant.1
-      c.page_sound-sound.ensures,
-)
+loop-c-preserved c =
+    cells-next _ _ (hosted_in c.args.run) _ c.loop-c.c c.loop-c-test.true c.cell_at.ensures c.loop-c.invariant
+    c.page_sound-sound.ensures
 
 pub returns : goal.returns
-returns c =
-    cells-all _ _ c.requires _ c.loop-c.c (omega arith) c.loop-c.invariant.1
+returns c = cells-all _ _ (hosted_in c.args.run) _ c.loop-c.c (omega arith) c.loop-c.invariant

@@ -1,6 +1,7 @@
 -- The bin is found, its emission made, and the places moved.
 use mathlib.Core.Path.{◌∙◌}
 use Rattle.call_run.specs.Runs.{run_of}
+use Rattle.call_run.proofs.RunLaws.{shape-ok, length-is}
 use Rattle.call_pick_tests.proofs.ReadyTestLaws.{cell_below}
 use Rattle.call_pick.proofs.PickRunLaws.{Chosen, chosen-emits, chosen-below, chosen-frame, still-celled}
 use Rattle.call_pick.proofs.PickRunLaws.{chosen-leaves}
@@ -19,19 +20,14 @@ chosen c =
       in_bin = c.data_bin_of-bin.ensures;
     }
 
-pub picked_cell-c-requires : goal.picked_cell-c-requires
-picked_cell-c-requires c = let q = c.requires in (q.hosted, q.place)
+pub invariant_of-run : goal.invariant_of-run
+invariant_of-run c =
+    let h = c.requires.hosted in record { shaped = shape-ok _ _ h; whole = length-is _ _ h }
 
 pub bin_of-k-requires : goal.bin_of-k-requires
 bin_of-k-requires c =
     let q = c.requires in
-    rw c.picked_cell-c.ensures (
-      record {
-        hosted = q.hosted;
-        there = cell_below c.args.s (run_of c.args.s c.args.mem.now) q.place;
-      },
-      q.turn,
-    )
+    rw c.picked_cell-c.ensures (cell_below c.args.s (run_of c.args.s c.args.mem.now) q.place, q.turn)
 
 pub emit_bin-requires : goal.emit_bin-requires
 emit_bin-requires c =

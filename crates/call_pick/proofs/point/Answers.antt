@@ -2,18 +2,18 @@
 use Prim.Native.Nat.{◌-◌}
 use native.Mathlib.Omega.{arith}
 use lib.ListN.{length, length-set}
+use Rattle.call_run.proofs.RunLaws.{shape-ok, length-is}
 use Rattle.call_pick.proofs.PickRunLaws.{lays-pointed}
 use Rattle.call_pick.proofs.point.Goals as goal
 
+pub invariant_of-run : goal.invariant_of-run
+invariant_of-run c =
+    let h = c.requires.0.hosted in record { shaped = shape-ok _ _ h; whole = length-is _ _ h }
+
 pub bounds-mem-at : goal.bounds-mem-at
 bounds-mem-at c =
-    let a = c.args in
-    let mem = a.mem.now in
-    omega (
-      arith,
-      c.cell_start-at.ensures,
-      length-set mem (length mem - 1) c.place_after.result,
-    )
+    let mem = c.args.mem.now in
+    omega (arith, c.cell_start-at.ensures, length-set mem (length mem - 1) c.place_after.result)
 
 pub returns : goal.returns
 returns c =

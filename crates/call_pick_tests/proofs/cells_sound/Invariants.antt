@@ -1,6 +1,5 @@
 -- The invariant: the cells before c passed their test, or not.
 use mathlib.Core.Path.{◌≡◌}
-use Prim.Native.Nat.{◌-◌, ◌≤◌}
 use lib.ListN.{take}
 use Rattle.lta_spec.specs.Damage.{picks_sound}
 use Rattle.call_run.specs.Runs.{run_of}
@@ -8,7 +7,4 @@ use Rattle.call_pick_tests.proofs.cells_sound.Given as goal
 
 abbrev pub invariant-loop-c : goal.invariant-loop-c
 invariant-loop-c l =
-    (l.c ≤ l.cells) × (l.ok ≡ picks_sound l.s.bins l.t (take l.c (run_of l.s l.mem).units))
-
-abbrev pub decreases-loop-c : goal.decreases-loop-c
-decreases-loop-c l = l.cells - l.c
+    let s = l.run.shape in l.ok ≡ picks_sound s.bins l.t (take l.c (run_of s l.run.mem.now).units)

@@ -3,32 +3,35 @@ use mathlib.Core.Path.{◌≡◌, sym, ap, subst, ◌∙◌}
 use mathlib.Core.Bool.{true, cond}
 use Rattle.lta_spec.specs.Engine.{has_room, tick_unit}
 use Rattle.lta_spec.specs.Damage.{tick_sound}
-use Rattle.cell_layout.proofs.LaysLaws.{lays-to}
-use Rattle.call_run.specs.Runs.{run_of, CellPart}
-use Rattle.call_run.proofs.RunLaws.{shape_is}
-use Rattle.call_run.proofs.LoanLaws.{loan, loan-is, loan-unit}
 use Rattle.lta_spec.specs.Step.{with_unit}
+use Rattle.cell_layout.proofs.LaysLaws.{lays-to}
+use Rattle.call_run.specs.Runs.{run_of}
+use Rattle.call_run.proofs.RunLaws.{shape-ok, shape_is, length-is}
+use Rattle.call_run.proofs.ViewLaws.{CellPart}
+use Rattle.call_run.proofs.LoanLaws.{loan, loan-is, loan-unit}
 use Rattle.call_tick.proofs.tick_at.Goals as goal
 use Rattle.call_tick.proofs.tick_at.Goals.{After-cell_words}
 
 -- the words lent are cell c
 lent-cell : (c : After-cell_words) → let a = c.args in
-    CellPart a.s a.mem.now a.c
-    (loan c.requires.cell c.cell_start-at.ensures.is c.cell_words.ensures.0)
-lent-cell c =
-    loan-is c.requires.cell c.cell_start-at.ensures.is c.cell_words.ensures.0
+    CellPart a.s a.mem.now a.c (loan c.requires.cell c.cell_start-at.ensures.is c.cell_words.ensures)
+lent-cell c = loan-is c.requires.cell c.cell_start-at.ensures.is c.cell_words.ensures
 
-pub cell_words-requires : goal.cell_words-requires
-cell_words-requires c =
-    let h = shape_is c.args.s c.args.mem.now c.requires.cell.hosted in
-    (h.lags, h.bins)
+pub invariant_of-run : goal.invariant_of-run
+invariant_of-run c =
+    let h = c.requires.cell.hosted in record { shaped = shape-ok _ _ h; whole = length-is _ _ h }
+
+pub cell_start-at-requires : goal.cell_start-at-requires
+cell_start-at-requires c = c.requires.cell.there
 
 pub tick_cell-requires : goal.tick_cell-requires
 tick_cell-requires c =
     let a = c.args in
+    let k = c.cell_shape-shape.ensures in
     let l = lent-cell (goal.at.tick_cell-requires c).After-cell_words in
-    let t = (run_of a.s a.mem.now).t in (
-      (l.fits, (shape_is a.s a.mem.now c.requires.cell.hosted).even),
+    let t = (run_of a.s a.mem.now).t in
+    rw (k.0, k.1) (
+      (l.size, (shape_is a.s a.mem.now c.requires.cell.hosted).even),
       record { t = t; sound = subst (λ u. tick_sound a.s.lags t u ≡ true) (sym l.unit) c.requires.sound },
     )
 
@@ -36,11 +39,12 @@ pub returns : goal.returns
 unfolding with_unit
 returns c =
     let a = c.args in
+    let k = c.cell_shape-shape.ensures in
     let l = lent-cell (goal.at.returns c).After-cell_words in
-    let ticked = c.tick_cell.ensures in
+    let ticked = rw (k.0, k.1) at c.tick_cell.ensures in
     record {
       held-off = ticked.held-off ∙ ap (λ u. cond (has_room a.s.lags u.cell) 0 1) l.unit;
       words =
-          loan-unit c.requires.cell c.cell_start-at.ensures.is c.cell_words.ensures.0 _ _
+          loan-unit c.requires.cell c.cell_start-at.ensures.is c.cell_words.ensures _ _
           (lays-to ticked.words (ap (tick_unit a.s.lags a.x a.y) l.unit));
     }

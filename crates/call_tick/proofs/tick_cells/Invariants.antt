@@ -1,6 +1,6 @@
 -- `call_tick::tick_cells` meets its contract. The invariant: the first c cells have taken their samples.
 use mathlib.Core.Path.{◌≡◌}
-use Prim.Native.Nat.{◌-◌, ◌≤◌}
+use Prim.Native.Nat.{◌≤◌}
 use lib.ListN.{take}
 use Rattle.lta_spec.specs.Step.{held_off}
 use Rattle.lta_spec.specs.Memory.{run_layout}
@@ -11,9 +11,6 @@ use Rattle.call_tick.proofs.tick_cells.Given as goal
 
 abbrev pub invariant-loop-c : goal.invariant-loop-c
 invariant-loop-c l =
-    (l.c ≤ l.cells) × Lays (run_layout l.s) l.mem (run_to l.s l.initial.mem l.samples l.c)
+    Lays (run_layout l.s) l.mem (run_to l.s l.initial.mem l.samples l.c)
     × (l.held ≡ held_off l.s (take l.c (run_of l.s l.initial.mem).units))
     × (l.held ≤ l.c)
-
-abbrev pub decreases-loop-c : goal.decreases-loop-c
-decreases-loop-c l = l.cells - l.c

@@ -25,30 +25,15 @@ next (suc c) samples =
 
 pub loop-c-init : goal.loop-c-init
 unfolding validity_ok
-loop-c-init c = (omega arith, refl)
-
-pub overflow_mul-valid : goal.overflow_mul-valid
-overflow_mul-valid c = omega (arith, c.requires.1)
-
-pub overflow_add-valid : goal.overflow_add-valid
-overflow_add-valid c = omega (arith, c.requires.1)
-
-pub bounds-samples-c : goal.bounds-samples-c
-bounds-samples-c c = omega (arith, c.requires.0)
-
-pub overflow_add-c : goal.overflow_add-c
-overflow_add-c c = omega arith
-
-pub loop-c-smaller : goal.loop-c-smaller
-loop-c-smaller c = omega arith
+loop-c-init c = refl
 
 pub loop-c-preserved : goal.loop-c-preserved
 loop-c-preserved c =
     let samples = c.args.samples.now in
     let k = c.loop-c.c in
-    (omega arith, rw (c.loop-c.invariant.1, add-one k) (next k samples))
+    rw (c.loop-c.invariant, add-one k) (next k samples)
 
 pub returns : goal.returns
 returns c =
     let past : c.loop-c.c ≡ c.args.cells = omega arith in
-    rw past at c.loop-c.invariant.1
+    rw past at c.loop-c.invariant

@@ -10,7 +10,8 @@ use Rattle.lta_spec.specs.Size.{row_words}
 use Rattle.lta_spec.specs.Row.{ticks_of, unbiased}
 use Rattle.lta_spec.specs.Engine.{loss_at}
 use Rattle.lta_spec.specs.declared.Sums.{Sums}
-use Rattle.cell_layout.specs.Cells.{places_of}
+use Rattle.cell_layout.specs.Views.{places_in}
+use Rattle.cell_layout.proofs.ViewLaws.{fits_in}
 use Rattle.cell_reads.proofs.ReadLaws.{loss-word, loss-few, loss-sum, loss-unbiased}
 use Rattle.cell_reads.proofs.read_loss.Goals as goal
 
@@ -22,32 +23,31 @@ same a b c d e = cc
 
 pub unbias-requires : goal.unbias-requires
 unbias-requires c =
-    rw c.loss_row-at.ensures.is (
-      loss-few c.requires.0.0 c.args.i c.requires.0.2 c.requires.1,
-      loss-sum c.requires.0.0 c.args.i
-          c.requires.0.2 c.requires.1 (3 + 2 * c.args.lag) (omega arith),
-    )
+    let f = fits_in c.args.cell in
+    let q = c.requires in
+    rw c.loss_row-at.ensures.is
+    (loss-few f c.args.i q.1 q.2, loss-sum f c.args.i q.1 q.2 (3 + 2 * c.args.lag) (omega arith))
 
 pub unbias-requires-2 : goal.unbias-requires-2
 unbias-requires-2 c =
-    rw c.loss_row-at.ensures.is (
-      loss-few c.requires.0.0 c.args.i c.requires.0.2 c.requires.1,
-      loss-sum c.requires.0.0 c.args.i
-          c.requires.0.2 c.requires.1 (4 + 2 * c.args.lag) (omega arith),
-    )
+    let f = fits_in c.args.cell in
+    let q = c.requires in
+    rw c.loss_row-at.ensures.is
+    (loss-few f c.args.i q.1 q.2, loss-sum f c.args.i q.1 q.2 (4 + 2 * c.args.lag) (omega arith))
 
 pub returns : goal.returns
 returns c =
     let a = c.args in
-    let l = a.cell.now in
-    let r = loss_at a.n a.i (places_of a.n a.bins l).losses in
+    let f = fits_in a.cell in
+    let l = a.cell.words.now in
+    let n = a.cell.shape.lags in
+    let q = c.requires in
+    let r = loss_at n a.i (places_in a.cell).losses in
     let at = c.loss_row-at.result in
-    let word : (j : ℕ) → j < row_words a.n → get_or l (at + j) 0 ≡ get_or r j 0 =
-    λ j h. ap (λ p. get_or l (p + j) 0)
-    c.loss_row-at.ensures.is
-    ∙ loss-word c.requires.0.0 a.i c.requires.0.2 j h in
-    let back = loss-unbiased c.requires.0.0 a.i c.requires.0.2 c.requires.1 in
-    let sum : (z : ℤ) (j : ℕ) → j < row_words a.n → z ≡ unbiased (get_or l (at + 0) 0) (get_or l (at + j) 0)
+    let word : (j : ℕ) → j < row_words n → get_or l (at + j) 0 ≡ get_or r j 0 =
+    λ j h. ap (λ p. get_or l (p + j) 0) c.loss_row-at.ensures.is ∙ loss-word f a.i q.1 j h in
+    let back = loss-unbiased f a.i q.1 q.2 in
+    let sum : (z : ℤ) (j : ℕ) → j < row_words n → z ≡ unbiased (get_or l (at + 0) 0) (get_or l (at + j) 0)
     → to_z w64 (of_z w64 z) ≡ unbiased (ticks_of r) (get_or r j 0) =
     λ z j h e. ap (λ x. to_z w64 (of_z w64 x)) (e ∙ ap₂ unbiased (word 0 (omega arith)) (word j h)) ∙ back j h in
     same (sum _ (3 + 2 * a.lag) (omega arith) c.unbias.ensures)

@@ -1,5 +1,6 @@
 -- X's register moves, and then Y's.
 use Rattle.cell_layout.proofs.CellLaws.{laid}
+use Rattle.cell_layout.proofs.ViewLaws.{fits_by}
 use Rattle.cell_shift.proofs.ShiftLaws.{lays-shift}
 use Rattle.cell_shift.proofs.shift_both.Goals as goal
 
@@ -9,7 +10,9 @@ returns c =
     rw (
       c.shift-2.ensures,
       c.shift.ensures,
-      c.x_register-xs.ensures.is,
-      c.y_register-ys.ensures.is,
+      c.x_register.ensures.is,
+      c.y_register.ensures.is,
+      c.depth.ensures,
+      c.depth-2.ensures,
     )
-    (lays-shift a.n a.bins (laid c.requires) a.x a.y)
+    (lays-shift a.shape.lags a.shape.bins (laid (fits_by a.shape c.requires)) a.x a.y)

@@ -4,10 +4,4 @@ use Rattle.cell_tests.proofs.dump_parts.Goals as goal
 
 pub returns : goal.returns
 unfolding dump_parts
-returns c =
-    rw (
-      c.open_ok-opened.ensures,
-      c.held_ok-held.ensures,
-      c.label_ok-label.ensures,
-      c.losses_ok-losses.ensures,
-    )
+returns c = rw (c.open_ok.ensures, c.held_ok.ensures, c.label_ok.ensures, c.losses_ok.ensures)

@@ -1,39 +1,19 @@
-use Rattle.std.proofs.Common.{◌≡◌, get_or, pos, refl, ap, ◌∙◌, add-one, arith, take_all, w32, SFits}
-use mir.ValLaws.{to_z-of_z}
-use Rattle.lta_spec.specs.Bytes.{number_word, signed}
+-- The fold has tested the numbers that it went over.
+use Rattle.std.proofs.Common.{◌≡◌, Bool, List, ℤ, true, refl, rules}
+use borrow.Author.Tests.{tests}
+use Rattle.std.proofs.iter.Yields.{fronts}
+use Rattle.std.proofs.lemmas.Iterator.{YieldsList-from_slice}
+use Rattle.std.proofs.lemmas.Fn.{fold_over}
+use Rattle.lta_spec.specs.Words.{every}
 use Rattle.lta_spec.specs.Frame.{within}
-use Rattle.lta_spec.proofs.TestLaws.{every-next}
-use Rattle.lta_spec.proofs.ByteLaws.{signed_word}
+use Rattle.frame_codec.proofs.Laws.{every_next}
 use Rattle.frame_codec.proofs.lags_within.Goals as goal
-
-pub loop-i-init : goal.loop-i-init
-loop-i-init c = (omega arith, refl)
-
-pub offset_bounds-lags-i : goal.offset_bounds-lags-i
-offset_bounds-lags-i c = omega arith
-
-pub bounds-lags-i : goal.bounds-lags-i
-bounds-lags-i c = omega arith
-
-pub overflow_add-i : goal.overflow_add-i
-overflow_add-i c = omega arith
-
-pub loop-i-smaller : goal.loop-i-smaller
-loop-i-smaller c = omega arith
-
-pub loop-i-preserved : goal.loop-i-preserved
-loop-i-preserved c =
-    let zs = c.args.lags.now in
-    let b = c.args.b in
-    let i = c.loop-i.i in
-    let fits : SFits w32 (get_or zs i (pos 0)) = record { sfits = omega arith } in
-    let near : c.word_within-near.result ≡ within b (get_or zs i (pos 0)) =
-    c.word_within-near.ensures
-    ∙ ap (within b)
-    (ap signed (c.word_of-w.ensures ∙ ap number_word (to_z-of_z w32 _ fits)) ∙ signed_word _ fits) in
-    (omega arith, rw (c.loop-i.invariant.1, near, add-one, every-next (within b) zs i (pos 0) (omega arith)))
 
 pub returns : goal.returns
 returns c =
     let zs = c.args.lags.now in
-    c.loop-i.invariant.1 ∙ rw (take_all c.loop-i.i zs (omega arith))
+    let near = within c.args.b in
+    let Tested : List ℤ → Bool → Type 0 = λ xs ok. ok ≡ every near xs in
+    fold_over fronts (λ y. y.now) _ Tested _
+    (λ xs ok x next f e k. (every_next near xs x.now e (search (rules, tests)), search rules)) c.iter.result zs true
+    c.fold.result (YieldsList-from_slice zs cc).runs refl c.fold.ensures.ran

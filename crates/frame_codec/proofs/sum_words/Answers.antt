@@ -1,40 +1,24 @@
-use Rattle.std.proofs.Common.{◌≡◌, ◌<◌, length, get_or, take, refl, ◌∙◌, add-one, arith, take-suc}
-use native.Mathlib.Nat.{mod-add-mod}
-use Rattle.lta_spec.specs.Bytes.{word_range, words_of, total}
-use Rattle.lta_spec.proofs.ByteLaws.{length-words, total-next}
+-- The fold has summed the words that it went over.
+use Rattle.std.proofs.Common.{◌≡◌, ℕ, List, rules, refl, ap, ◌∙◌, arith}
+use Rattle.std.specs.List.{range_with_len}
+use Rattle.std.proofs.lemmas.Iterator.{YieldsList-from_range}
+use Rattle.std.proofs.lemmas.Fn.{fold_over}
+use Rattle.std.proofs.iter.Yields.{nat_range_steps}
+use Rattle.lta_spec.specs.Words.{part}
+use Rattle.lta_spec.specs.Bytes.{words_of}
+use Rattle.lta_spec.specs.Frame.{checksum}
+use Rattle.lta_spec.proofs.ByteLaws.{length-words}
+use Rattle.frame_codec.proofs.Laws.{words_at, words_at-range, sum_next}
 use Rattle.frame_codec.proofs.sum_words.Goals as goal
 
-pub loop-i-init : goal.loop-i-init
-loop-i-init c = (omega arith, refl)
-
-pub word_at-requires : goal.word_at-requires
-word_at-requires c = omega arith
-
-pub overflow_add-i : goal.overflow_add-i
-overflow_add-i c = omega arith
-
-pub loop-i-smaller : goal.loop-i-smaller
-loop-i-smaller c = omega arith
-
-pub loop-i-preserved : goal.loop-i-preserved
-loop-i-preserved c =
-    let s = c.args.s.now in
-    let ws = words_of s in
-    let i = c.loop-i.i in
-    let inside : i < length ws = omega (arith, length-words s) in (
-      omega arith,
-      c.wrapping_add_u32-sum.ensures.value
-          ∙ rw (
-            c.loop-i.invariant.1,
-            c.word_at.ensures,
-            mod-add-mod (total (take i ws)) word_range (get_or ws i 0),
-            ← total-next (take i ws) (get_or ws i 0),
-            ← take-suc ws i 0 inside,
-            add-one,
-          ),
-    )
-
 pub returns : goal.returns
+unfolding part
 returns c =
-    let past : c.loop-i.i ≡ c.args.n = omega arith in
-    c.loop-i.invariant.1 ∙ rw past
+    let n = c.args.n in
+    let ws = words_of c.args.s.now in
+    let Summed : List ℕ → ℕ → Type 0 = λ is sum. sum ≡ checksum (words_at ws is) in
+    fold_over nat_range_steps (λ i. i) _ Summed _
+    (λ is sum i next f e k. (sum_next ws is i e (search rules), search rules))
+    (record { start = 0; end = n }) (range_with_len 0 n) 0 c.fold.result
+    (YieldsList-from_range 0 n n refl (omega arith)).runs refl c.fold.ensures.ran
+    ∙ ap checksum (words_at-range ws 0 n (omega (arith, length-words c.args.s.now)))

@@ -4,15 +4,16 @@ use native.Mathlib.Omega.{arith}
 use Rattle.lta_spec.specs.Call.{emitted_fields}
 use Rattle.lta_spec.proofs.ShapeLaws.{Shaped, shaped}
 use Rattle.lta_spec.proofs.RoundTrips.{Valid, fields-ok}
+use Rattle.frame_header.specs.Kind.{kind_number}
 use Rattle.frame_fields.specs.Emits.{fields_from}
 use Rattle.frame_fields.proofs.Laws.{sent}
 use Rattle.frame_fields.proofs.emitted_fields.Goals as goal
 use Rattle.frame_fields.proofs.emitted_fields.Goals.{Start}
 
 fine : (c : Start)
-    → let a = c.args in Valid (fields_from a.s a.kind a.cell a.bank a.bin a.stamp a.row.now)
+    → let a = c.args in Valid (fields_from a.s (kind_number a.kind) a.cell a.bank a.bin a.stamp a.row.now)
 fine c =
-    let a = c.args in sent a.s a.kind a.cell a.bank a.bin a.stamp a.row.now c.requires
+    let a = c.args in sent a.s (kind_number a.kind) a.cell a.bank a.bin a.stamp a.row.now c.requires
 
 shape : (c : Start) → Shaped c.args.s
 shape c = shaped c.args.s c.requires.shaped
@@ -55,5 +56,5 @@ overflow_cast-result-2 c = omega (arith, fine (goal.at.overflow_cast-result-2 c)
 pub returns : goal.returns
 unfolding emitted_fields
 returns c =
-    rw (c.block_of-block.ensures, c.second_of-second.ensures, c.offset_of-offset.ensures)
+    rw (c.into.ensures, c.block_of-block.ensures, c.second_of-second.ensures, c.offset_of-offset.ensures)
     (refl, fields-ok _ (fine (goal.at.returns c).Start))

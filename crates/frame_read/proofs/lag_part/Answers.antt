@@ -12,8 +12,8 @@ inside : (c : After-lag_span-p)
 inside c =
     let a = c.args in rw c.lag_span-p.ensures (lag-inside a.n a.bytes.now).inside
 
-pub overflow_add-e : goal.overflow_add-e
-overflow_add-e c = omega (arith, inside (goal.at.overflow_add-e c).After-lag_span-p)
+pub overflow_add-result : goal.overflow_add-result
+overflow_add-result c = omega (arith, inside (goal.at.overflow_add-result c).After-lag_span-p)
 
 pub slice_bounds-result-end : goal.slice_bounds-result-end
 slice_bounds-result-end c = omega (arith, inside (goal.at.slice_bounds-result-end c).After-lag_span-p)

@@ -1,14 +1,7 @@
--- Four bytes are the word that stands there.
-use mathlib.Core.Path.{sym}
+-- The four bytes are the word that stands there.
+use Rattle.std.proofs.Common.{arith}
 use Rattle.lta_spec.proofs.ByteLaws.{get_d_words}
 use Rattle.frame_word.proofs.word_at.Goals as goal
 
 pub returns : goal.returns
-returns c =
-    rw (
-      c.wide.ensures.0,
-      c.wide-2.ensures.0,
-      c.wide-3.ensures.0,
-      c.wide-4.ensures.0,
-    )
-    (sym (get_d_words c.args.s.now c.args.k c.requires))
+returns c = omega (arith, c.from_le_bytes.ensures, get_d_words c.args.s.now c.args.k c.requires)

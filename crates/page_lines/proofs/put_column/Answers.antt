@@ -12,10 +12,8 @@ put_right-requires c = (
   omega (arith, c.requires.1, c.put_byte-b.ensures.behind, c.put_byte-b.auto.out),
 )
 
-pub returns : goal.returns
-returns c =
-    let a = c.args in record {
-      behind = omega (arith, c.put_right.ensures.behind, c.put_byte-b.ensures.behind);
-      leaves = splice-behind a.out.now a.at (space ∷ []) (right_aligned 11 a.n) c.put_byte-b.ensures.leaves
-          c.put_byte-b.ensures.behind c.put_right.ensures.leaves;
-    }
+pub returns-clause-leaves : goal.returns-clause-leaves
+returns-clause-leaves c =
+    let a = c.args in
+    splice-behind a.out.now a.at (space ∷ []) (right_aligned 11 a.n) c.put_byte-b.ensures.leaves
+    c.put_byte-b.ensures.behind c.put_right.ensures.leaves

@@ -20,7 +20,7 @@ use Rattle.script.proofs.RunLaws.{
   ends-few,
 }
 use Rattle.script.proofs.run_records.Goals as goal
-use Rattle.script.proofs.run_records.Goals.{After-size_at-at}
+use Rattle.script.proofs.run_records.Goals.{After-size_at}
 
 -- behind `else` stand the end and a cut record
 no_record : (n : Next) → ((r : Record) → n ≡ next.Record r → ⊥) → is_record n ≡ false
@@ -29,23 +29,23 @@ no_record next.End h = refl
 no_record next.Cut h = refl
 
 -- the bytes, the run and the lines behind a record
-behind : (c : After-size_at-at)
+behind : (c : After-size_at)
     → let a = c.args in
-    Ran a.b.now a.mem.now a.lines.now (c.loop-r.at + c.size_at-at.result) c.run-len.new.mem
-    c.run-len.new.lines c.run-len.result
+    Ran a.b.now a.mem.now a.lines.now (c.loop-r.ran.at + c.size_at.result) c.run.new.mem
+    c.run.new.lines c.run.result
 behind c =
-    let e = c.run-len.ensures in
-    rw c.size_at-at.ensures
-    (moves _ _ _ _ _ _ _ c.loop-r.invariant.0 _ (sym c.next_at-n.ensures ∙ c.in-Record.is) e.leaves e.behind
+    let e = c.run.ensures in
+    rw c.size_at.ensures
+    (moves _ _ _ _ _ _ _ c.loop-r.invariant _ (sym c.next_at.ensures ∙ c.in-Record.is) e.leaves e.behind
     e.line e.few)
 
 pub loop-r-init : goal.loop-r-init
-loop-r-init c = (at_first _ _ _, refl, refl)
+loop-r-init c = at_first _ _ _
 
 pub returns-in_default : goal.returns-in_default
 returns-in_default c =
-    let ran = c.loop-r.invariant.0 in
-    let none = ap is_record (sym c.next_at-n.ensures) ∙ no_record c.next_at-n.result c.in_default.not-Record in
+    let ran = c.loop-r.invariant in
+    let none = ap is_record (sym c.next_at.ensures) ∙ no_record c.next_at.result c.in_default.not-Record in
     record {
       leaves = ends-mem _ _ _ _ _ _ _ ran none;
       stops = ends_at _ _ _ _ _ _ _ ran none;
@@ -54,19 +54,22 @@ returns-in_default c =
       few = ends-few _ _ _ _ _ _ _ ran none;
     }
 
-pub run-len-requires : goal.run-len-requires
-run-len-requires c =
-    room _ _ _ _ _ _ _ c.loop-r.invariant.0 _ (sym c.next_at-n.ensures ∙ c.in-Record.is) c.requires
+pub run-requires : goal.run-requires
+run-requires c =
+    room _ _ _ _ _ _ _ c.loop-r.invariant _ (sym c.next_at.ensures ∙ c.in-Record.is) c.requires
 
-pub overflow_add-at : goal.overflow_add-at
-overflow_add-at c = omega (arith, (behind (goal.at.overflow_add-at c).After-size_at-at).inside)
+pub overflow_add-ran : goal.overflow_add-ran
+overflow_add-ran c = omega (arith, (behind (goal.at.overflow_add-ran c).After-size_at).inside)
 
 pub loop-r-smaller : goal.loop-r-smaller
 loop-r-smaller c =
     let b = c.args.b.now in
-    omega (arith, (behind (goal.at.loop-r-smaller c).After-size_at-at).inside, c.size_at-at.ensures, (wanted (drop c.loop-r.at b)).least)
+    omega (
+      arith,
+      (behind (goal.at.loop-r-smaller c).After-size_at).inside,
+      c.size_at.ensures,
+      (wanted (drop c.loop-r.ran.at b)).least,
+    )
 
 pub loop-r-preserved : goal.loop-r-preserved
-loop-r-preserved c =
-    let inv = c.loop-r.invariant in
-    (behind (goal.at.loop-r-preserved c).After-size_at-at, c.run-len.auto.mem ∙ inv.1, c.run-len.auto.lines ∙ inv.2)
+loop-r-preserved c = behind (goal.at.loop-r-preserved c).After-size_at

@@ -1,14 +1,12 @@
 -- One record after the other: the invariant is `Ran`, that what the bytes from `at` on leave and print behind the
 -- lines so far is what all of them leave and print.
 use Prim.Native.Nat.{◌-◌}
-use mathlib.Core.Path.{◌≡◌}
 use lib.ListN.{length}
 use Rattle.script.proofs.RunLaws.{Ran}
 use Rattle.script.proofs.run_records.Given as goal
 
 abbrev pub invariant-loop-r : goal.invariant-loop-r
-invariant-loop-r l =
-    Ran l.b l.initial.mem l.initial.lines l.at l.mem l.lines l.len × (length l.mem ≡ length l.initial.mem) × (length l.lines ≡ length l.initial.lines)
+invariant-loop-r l = Ran l.b l.initial.mem l.initial.lines l.ran.at l.mem l.lines l.ran.len
 
 abbrev pub decreases-loop-r : goal.decreases-loop-r
-decreases-loop-r l = length l.b - l.at
+decreases-loop-r l = length l.b - l.ran.at

@@ -1,33 +1,24 @@
--- Nothing, a record that is cut, or what the letters say.
-use Prim.Native.Nat.{◌≤◌}
+-- Nothing, a record that is whole, or a cut one.
 use mathlib.Core.Path.{sym, ap, ◌∙◌}
-use lib.ListN.{length}
-use Rattle.script_records.specs.Records.{marked_in}
-use Rattle.script_bytes.specs.Bytes.{size_in}
-use Rattle.script_bytes.proofs.HeadLaws.{nothing, cut, uncut, lettered, by-letters}
+use borrow.Author.Tests.{eqb-true, eqb-false}
+use Rattle.script_records.specs.declared.Next.TheVariants as next
+use Rattle.script_bytes.proofs.HeadLaws.{nothing, next-whole, next-cut, next-unknown}
 use Rattle.script_bytes.proofs.next_in.Goals as goal
-use Rattle.script_bytes.proofs.next_in.Goals.{Else-b-size_in}
 
--- what is known behind the two tests
-there : (c : Else-b-size_in) → let b = c.args.b.now in size_in b ≤ length b
-there c = rw c.size_in.ensures at c.if-b-size_in.false
+pub returns-then-is_empty : goal.returns-then-is_empty
+returns-then-is_empty c = sym (nothing c.args.b.now (eqb-true _ 0 (sym c.if-is_empty.ensures)))
 
-pub returns-then-b-eq0 : goal.returns-then-b-eq0
-returns-then-b-eq0 c = sym (nothing _ c.if-b-eq0.true)
+pub returns-else-is_empty : goal.returns-else-is_empty
+returns-else-is_empty c =
+    sym (next-unknown c.args.b.now (eqb-false _ 0 (sym c.if-is_empty.ensures)) (sym c.kind_in.ensures ∙ c.in_default.is))
 
-pub returns-then-b-size_in : goal.returns-then-b-size_in
-returns-then-b-size_in c = sym (cut _ c.if-b-eq0.false (rw c.size_in.ensures at c.if-b-size_in.true))
+pub returns-then-size-b : goal.returns-then-size-b
+returns-then-size-b c =
+    let whole = rw c.size.ensures at c.if-size-b.true in
+    ap next.Record c.record_in.ensures
+    ∙ sym (next-whole c.args.b.now c.in-Some.kind (sym c.kind_in.ensures ∙ c.in-Some.is) whole)
 
-pub bounds-b-1 : goal.bounds-b-1
-bounds-b-1 c = lettered _ (there (goal.at.bounds-b-1 c).Else-b-size_in)
-
-pub marked-requires : goal.marked-requires
-marked-requires c =
-    let h = there (goal.at.marked-requires c).Else-b-size_in in
-    rw (c.two.ensures.value, ← by-letters _ (lettered _ h)) h
-
-pub returns : goal.returns
-returns c =
-    let b = c.args.b.now in
-    c.marked.ensures
-    ∙ (ap (λ l. marked_in l b) c.two.ensures.value ∙ sym (uncut b (there (goal.at.returns c).Else-b-size_in)))
+pub returns-else-size-b : goal.returns-else-size-b
+returns-else-size-b c =
+    let short = rw c.size.ensures at c.if-size-b.false in
+    sym (next-cut c.args.b.now c.in-Some.kind (sym c.kind_in.ensures ∙ c.in-Some.is) short)

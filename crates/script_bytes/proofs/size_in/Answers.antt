@@ -1,17 +1,17 @@
--- Where two letters stand, they say it.
-use mathlib.Core.Path.{refl, sym, ap, ◌∙◌}
-use borrow.Author.Tests.{lt-ltb}
-use Rattle.script_records.specs.Records.{record_size}
-use Rattle.script_bytes.specs.Bytes.{size_in}
-use Rattle.script_bytes.proofs.HeadLaws.{by-letters}
+-- As many as the kind has, and 2 where there is none.
+use mathlib.Core.Path.{◌≡◌, ap, ◌∙◌, sym}
+use Prim.Native.Nat.{ℕ}
+use Rattle.std.specs.Prelude.{Option, Some, None, MatchOption}
+use Rattle.script_records.specs.Records.{size_of_kind}
+use Rattle.script_records.specs.declared.Kind.{Kind}
+use Rattle.script_bytes.proofs.HeadLaws.{size_where, size-where}
 use Rattle.script_bytes.proofs.size_in.Goals as goal
 
-pub returns-then-b-lt2 : goal.returns-then-b-lt2
-unfolding size_in
-returns-then-b-lt2 c = rw (lt-ltb _ 2 c.if-b-lt2.true) refl
+size-from : (kind : Option Kind) (n : ℕ) → MatchOption kind (n ≡ 2) (λ k. n ≡ size_of_kind k) → n ≡ size_where kind
+size-from None n h = h
+size-from (Some k) n h = h
 
 pub returns : goal.returns
 returns c =
-    c.size.ensures
-    ∙ (ap record_size c.two.ensures.value
-    ∙ sym (by-letters _ c.if-b-lt2.false))
+    size-from c.kind_in.result c.map_or.result c.map_or.ensures
+    ∙ (ap size_where c.kind_in.ensures ∙ sym (size-where c.args.b.now))

@@ -1,50 +1,40 @@
 -- Letters, 0, what is answered, line feed: they are no more than there is room for.
 use Prim.Native.Nat.{◌≤◌}
-use mathlib.Core.Path.{sym}
+use mathlib.Core.Path.{sym, ap, ◌∙◌}
 use mathlib.Core.List.{[], ◌∷◌, ◌++◌}
 use native.Mathlib.Omega.{arith}
 use lib.IntN.{pos}
 use lib.ListN.{length}
-use Rattle.lta_spec.proofs.ByteLaws.{Below, below_all}
+use Rattle.lta_spec.proofs.ByteLaws.{below_all}
+use Rattle.script_records.specs.Records.{letters_of_kind}
 use Rattle.script_lines.specs.Lines.{spaced, line, letters_of, value_fields, most_bytes}
-use Rattle.script_lines.proofs.PutLaws.{
-  Room,
-  Put,
-  same-room,
-  same-put,
-  first-room,
-  second-room,
-  both,
-  room-1,
-  room-2,
-  room-3,
-}
+use Rattle.script_lines.proofs.PutLaws.{Room, Put, same-room, same-put, first-room, second-room, both, room-2, room-3}
 use Rattle.script_lines.proofs.FieldLaws.{spaced-append, LineRooms, line-rooms, line-put}
 use Rattle.script_lines.proofs.LengthLaws.{accepted-fits}
 use Rattle.script_lines.proofs.put_accepted.Goals as goal
 use Rattle.script_lines.proofs.put_accepted.Goals.{After-put_bytes-i, After-put_value-e, Start}
 
 -- how long the line is, and room for its three parts
-fits : (s : Start) → Below 256 s.args.frame.now
+fits : (s : Start)
     → let a = s.args in
     length (line (letters_of a.r) (pos 0 ∷ value_fields a.r a.k a.frame.now)) ≤ most_bytes a.r
-fits s b =
+fits s =
     let a = s.args in
-    accepted-fits a.r a.k a.frame.now s.ranges.k.fits b
+    accepted-fits a.r a.k a.frame.now s.ranges.k.fits (below_all 256 a.frame.now s.fits-frame)
 
-rooms : (s : Start) → Below 256 s.args.frame.now
+rooms : (s : Start)
     → let a = s.args in
     LineRooms a.lines.now a.at (letters_of a.r) (pos 0 ∷ value_fields a.r a.k a.frame.now)
-rooms s b =
+rooms s =
     let a = s.args in
     line-rooms a.lines.now a.at (letters_of a.r) (pos 0 ∷ value_fields a.r a.k a.frame.now)
-    (omega (arith, s.requires.room, fits s b))
+    (omega (arith, s.requires, fits s))
 
 -- the letters were put, and there is room for 0 and for what is answered
 letters-put : (c : After-put_bytes-i)
     → let a = c.args in
     Put a.lines.now a.at (letters_of a.r) c.put_bytes-i.result c.put_bytes-i.new.out
-letters-put c = same-put _ _ c.letters-l.ensures (c.put_bytes-i.ensures.behind, c.put_bytes-i.ensures.leaves)
+letters-put c = same-put _ _ (c.letters.ensures ∙ ap letters_of_kind c.kind.ensures) c.put_bytes-i.ensures
 
 fields-room : (c : After-put_bytes-i)
     → let a = c.args in
@@ -68,53 +58,39 @@ fields-put c =
     let m = c.put_bytes-i.new.out in
     let p = c.put_bytes-i.result in
     same-put m p (spaced-append (pos 0 ∷ []) v)
-    (both m p (spaced (pos 0 ∷ [])) (spaced v) (c.put_field-j.ensures.behind, c.put_field-j.ensures.leaves)
-    (c.put_value-e.ensures.behind, c.put_value-e.ensures.leaves))
-
-pub put_bytes-i-requires : goal.put_bytes-i-requires
-put_bytes-i-requires c =
-    let b = below_all 256 c.args.frame.now (λ i. (c.type_inv.frame i).fits) in
-    rw c.letters-l.ensures (room-1 (rooms (goal.at.put_bytes-i-requires c).Start b))
+    (both m p (spaced (pos 0 ∷ [])) (spaced v) c.put_field-j.ensures
+    c.put_value-e.ensures)
 
 pub put_field-j-requires : goal.put_field-j-requires
 put_field-j-requires c =
-    let b = below_all 256 c.args.frame.now (λ i. (c.type_inv.frame i).fits) in
     let a = c.args in
     let v = value_fields a.r a.k a.frame.now in
     first-room c.put_bytes-i.new.out c.put_bytes-i.result (spaced (pos 0 ∷ [])) (spaced v)
-    (fields-room (goal.at.put_field-j-requires c).After-put_bytes-i (rooms (goal.at.put_field-j-requires c).Start b))
+    (fields-room (goal.at.put_field-j-requires c).After-put_bytes-i (rooms (goal.at.put_field-j-requires c).Start))
 
 pub put_value-e-requires : goal.put_value-e-requires
 put_value-e-requires c =
-    let b = below_all 256 c.args.frame.now (λ i. (c.type_inv.frame i).fits) in
     let v = value_fields c.args.r c.args.k c.args.frame.now in
-    record {
-      whole = c.requires.whole;
-      room = second-room c.put_bytes-i.new.out c.put_bytes-i.result (spaced (pos 0 ∷ [])) (spaced v)
-          (c.put_field-j.ensures.behind, c.put_field-j.ensures.leaves)
-          (fields-room (goal.at.put_value-e-requires c).After-put_bytes-i
-          (rooms (goal.at.put_value-e-requires c).Start b));
-    }
+    second-room c.put_bytes-i.new.out c.put_bytes-i.result (spaced (pos 0 ∷ [])) (spaced v) c.put_field-j.ensures
+    (fields-room (goal.at.put_value-e-requires c).After-put_bytes-i (rooms (goal.at.put_value-e-requires c).Start))
 
 pub put_byte-requires : goal.put_byte-requires
 put_byte-requires c =
-    let b = below_all 256 c.args.frame.now (λ i. (c.type_inv.frame i).fits) in
     let letters = letters-put (goal.at.put_byte-requires c).After-put_bytes-i in
     let fields = fields-put (goal.at.put_byte-requires c).After-put_value-e in
-    omega (arith, room-3 (rooms (goal.at.put_byte-requires c).Start b) letters fields)
+    omega (arith, room-3 (rooms (goal.at.put_byte-requires c).Start) letters fields)
 
 pub returns : goal.returns
 returns c =
-    let b = below_all 256 c.args.frame.now (λ i. (c.type_inv.frame i).fits) in
     let a = c.args in
     let v = value_fields a.r a.k a.frame.now in
     let letters = letters-put (goal.at.returns c).After-put_bytes-i in
     let fields = fields-put (goal.at.returns c).After-put_value-e in
     let put =
-    line-put a.lines.now a.at (letters_of a.r) (pos 0 ∷ v) (rooms (goal.at.returns c).Start b) letters fields
-    (c.put_byte.ensures.behind, c.put_byte.ensures.leaves) in
+    line-put a.lines.now a.at (letters_of a.r) (pos 0 ∷ v) (rooms (goal.at.returns c).Start) letters fields
+    c.put_byte.ensures in
     record {
-      behind = put.0;
-      leaves = put.1;
-      few = omega (arith, put.0, fits (goal.at.returns c).Start b);
+      behind = put.behind;
+      leaves = put.leaves;
+      few = omega (arith, put.behind, fits (goal.at.returns c).Start);
     }

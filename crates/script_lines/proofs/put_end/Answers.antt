@@ -17,22 +17,18 @@ put_bytes-i-requires c = room-1 (rooms (goal.at.put_bytes-i-requires c).Start)
 
 pub put_field-j-requires : goal.put_field-j-requires
 put_field-j-requires c =
-    room-2 (rooms (goal.at.put_field-j-requires c).Start) (c.put_bytes-i.ensures.behind, c.put_bytes-i.ensures.leaves)
+    room-2 (rooms (goal.at.put_field-j-requires c).Start) c.put_bytes-i.ensures
 
 pub put_byte-requires : goal.put_byte-requires
 put_byte-requires c =
     omega (
       arith,
       room-3 (rooms (goal.at.put_byte-requires c).Start)
-          (c.put_bytes-i.ensures.behind, c.put_bytes-i.ensures.leaves)
-          (c.put_field-j.ensures.behind, c.put_field-j.ensures.leaves),
+          c.put_bytes-i.ensures
+          c.put_field-j.ensures,
     )
 
 pub returns : goal.returns
 returns c =
-    let put = line-put c.args.lines.now c.args.at (ascii "END") (pos c.args.number ∷ [])
-    (rooms (goal.at.returns c).Start)
-    (c.put_bytes-i.ensures.behind, c.put_bytes-i.ensures.leaves)
-    (c.put_field-j.ensures.behind, c.put_field-j.ensures.leaves)
-    (c.put_byte.ensures.behind, c.put_byte.ensures.leaves) in
-    record { behind = put.0; leaves = put.1 }
+    line-put c.args.lines.now c.args.at (ascii "END") (pos c.args.number ∷ []) (rooms (goal.at.returns c).Start)
+    c.put_bytes-i.ensures c.put_field-j.ensures c.put_byte.ensures

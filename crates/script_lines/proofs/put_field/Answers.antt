@@ -24,13 +24,11 @@ pub put_number-requires : goal.put_number-requires
 put_number-requires c =
     let a = c.args in
     second-room a.lines.now a.at (space ∷ []) (decimal a.n)
-    (c.put_byte-i.ensures.behind, c.put_byte-i.ensures.leaves) (room (goal.at.put_number-requires c).Start)
+    c.put_byte-i.ensures (room (goal.at.put_number-requires c).Start)
 
 pub returns : goal.returns
 returns c =
     let a = c.args in
     let l = a.lines.now in
-    let put = same-put l a.at (one_field a.n)
-    (both l a.at (space ∷ []) (decimal a.n) (c.put_byte-i.ensures.behind, c.put_byte-i.ensures.leaves)
-    (c.put_number.ensures.behind, c.put_number.ensures.leaves)) in
-    record { behind = put.0; leaves = put.1 }
+    same-put l a.at (one_field a.n)
+    (both l a.at (space ∷ []) (decimal a.n) c.put_byte-i.ensures c.put_number.ensures)

@@ -1,11 +1,14 @@
 -- Header words, lags, sum: the three parts of a frame's words.
-use mathlib.Core.Path.{sym}
-use mathlib.Core.Bool.{true, false}
-use Prim.Native.Nat.{◌+◌}
+use mathlib.Core.Path.{◌≡◌, sym}
+use mathlib.Core.List.{List}
+use Prim.Native.Nat.{ℕ, ◌+◌}
 use native.Mathlib.Omega.{arith}
-use lib.ListN.{drop, length-drop}
+use lib.ListN.{length, take, drop}
+use Rattle.std.proofs.lemmas.Slice.{between_to_end}
 use Rattle.lta_spec.specs.Bytes.{words_of}
 use Rattle.lta_spec.specs.Frame.{head_words}
+use Rattle.frame_header.specs.Kind.{kind_number}
+use Rattle.script_lines.specs.declared.Printed.TheVariants.{Plain, Signed}
 use Rattle.script_lines.proofs.PutLaws.{Rooms, same-room, same-put, room-1, room-2, room-3, all-3}
 use Rattle.script_lines.proofs.FieldLaws.{words, frame-parts}
 use Rattle.script_lines.proofs.put_frame.Goals as goal
@@ -14,59 +17,40 @@ use Rattle.script_lines.proofs.put_frame.Goals.{Start}
 -- room for the three parts
 rooms : (s : Start)
     → let ws = words_of (drop 2 s.args.frame.now) in
-    let h = head_words s.args.kind in
-    Rooms s.args.lines.now s.args.at (words false ws 0 h) (words true ws h 4) (words false ws (h + 4) 1)
+    let h = head_words (kind_number s.args.kind) in
+    Rooms s.args.lines.now s.args.at (words Plain ws 0 h) (words Signed ws h 4) (words Plain ws (h + 4) 1)
 rooms s =
     let l = s.args.lines.now in
-    record { room = same-room l s.args.at (sym (frame-parts s.args.kind s.args.frame.now)) s.requires.room }
+    record { room = same-room l s.args.at (sym (frame-parts (kind_number s.args.kind) s.args.frame.now)) s.requires }
 
-pub put_words-i-requires : goal.put_words-i-requires
-put_words-i-requires c =
-    let e = c.head_words-head.ensures in
-    let body = length-drop 2 c.args.frame.now in
-    rw c.tail-body.ensures
-    (record {
-      inside = omega (arith, body, c.requires.whole, e);
-      room = rw e.0
-          (room-1 (rooms (goal.at.put_words-i-requires c).Start));
-    })
+-- the bytes behind the mark
+body : (l : List ℕ) → length l ≡ 54 → take 52 (drop 2 l) ≡ drop 2 l
+body l h = between_to_end l 2 54 (omega arith)
 
-pub put_words-j-requires : goal.put_words-j-requires
-put_words-j-requires c =
-    let e = c.head_words-head.ensures in
-    let body = length-drop 2 c.args.frame.now in
-    let put = rw (c.tail-body.ensures, e.0) at c.put_words-i.ensures in
-    rw c.tail-body.ensures
-    (record {
-      inside = omega (arith, body, c.requires.whole, e);
-      room = rw e.0
-          (room-2 (rooms (goal.at.put_words-j-requires c).Start) (put.behind, put.leaves));
-    })
+pub put_words-i-requires-clause-room : goal.put_words-i-requires-clause-room
+put_words-i-requires-clause-room c =
+    rw (body c.args.frame.now c.told-frame, c.head_words-head.ensures.0)
+    (room-1 (rooms (goal.at.put_words-i-requires-clause-room c).Start))
 
-pub overflow_add-head : goal.overflow_add-head
-overflow_add-head c =
-    omega (arith, c.head_words-head.ensures)
+pub put_words-j-requires-clause-room : goal.put_words-j-requires-clause-room
+put_words-j-requires-clause-room c =
+    let h = c.head_words-head.ensures.0 in
+    let put = rw (body c.args.frame.now c.told-frame, h) at c.put_words-i.ensures in
+    rw (body c.args.frame.now c.told-frame, h) (room-2 (rooms (goal.at.put_words-j-requires-clause-room c).Start) put)
 
-pub put_words-requires : goal.put_words-requires
-put_words-requires c =
-    let e = c.head_words-head.ensures in
-    let body = length-drop 2 c.args.frame.now in
-    let put = rw (c.tail-body.ensures, e.0) at c.put_words-i.ensures in
-    let put2 = rw (c.tail-body.ensures, e.0) at c.put_words-j.ensures in
-    rw c.tail-body.ensures
-    (record {
-      inside = omega (arith, body, c.requires.whole, e);
-      room = rw e.0
-          (room-3 (rooms (goal.at.put_words-requires c).Start) (put.behind, put.leaves) (put2.behind, put2.leaves));
-    })
+pub put_words-requires-clause-room : goal.put_words-requires-clause-room
+put_words-requires-clause-room c =
+    let h = c.head_words-head.ensures.0 in
+    let put = rw (body c.args.frame.now c.told-frame, h) at c.put_words-i.ensures in
+    let put2 = rw (body c.args.frame.now c.told-frame, h) at c.put_words-j.ensures in
+    rw (body c.args.frame.now c.told-frame, h)
+    (room-3 (rooms (goal.at.put_words-requires-clause-room c).Start) put put2)
 
 pub returns : goal.returns
 returns c =
-    let e = c.head_words-head.ensures in
-    let put = rw (c.tail-body.ensures, e.0) at c.put_words-i.ensures in
-    let put2 = rw (c.tail-body.ensures, e.0) at c.put_words-j.ensures in
-    let put3 = rw (c.tail-body.ensures, e.0) at c.put_words.ensures in
-    let all = same-put c.args.lines.now c.args.at (frame-parts c.args.kind c.args.frame.now)
-    (all-3 (rooms (goal.at.returns c).Start) (put.behind, put.leaves) (put2.behind, put2.leaves)
-    (put3.behind, put3.leaves)) in
-    record { behind = all.0; leaves = all.1 }
+    let h = c.head_words-head.ensures.0 in
+    let put = rw (body c.args.frame.now c.told-frame, h) at c.put_words-i.ensures in
+    let put2 = rw (body c.args.frame.now c.told-frame, h) at c.put_words-j.ensures in
+    let put3 = rw (body c.args.frame.now c.told-frame, h) at c.put_words.ensures in
+    same-put c.args.lines.now c.args.at (frame-parts (kind_number c.args.kind) c.args.frame.now)
+    (all-3 (rooms (goal.at.returns c).Start) put put2 put3)

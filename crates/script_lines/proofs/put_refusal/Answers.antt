@@ -1,11 +1,13 @@
 -- Letters, field, line feed: they are no more than there is room for.
 use Prim.Native.Nat.{◌≤◌}
+use mathlib.Core.Path.{ap, ◌∙◌}
 use mathlib.Core.List.{[], ◌∷◌}
 use native.Mathlib.Omega.{arith}
 use lib.IntN.{pos}
 use lib.ListN.{length}
+use Rattle.script_records.specs.Records.{letters_of_kind}
 use Rattle.script_lines.specs.Lines.{line, letters_of, most_bytes}
-use Rattle.script_lines.proofs.PutLaws.{same-put, room-1, room-2, room-3}
+use Rattle.script_lines.proofs.PutLaws.{same-put, room-2, room-3}
 use Rattle.script_lines.proofs.FieldLaws.{LineRooms, line-rooms, line-put}
 use Rattle.script_lines.proofs.LengthLaws.{refusal-fits}
 use Rattle.script_lines.proofs.put_refusal.Goals as goal
@@ -21,33 +23,29 @@ rooms s =
     line-rooms s.args.lines.now s.args.at (letters_of s.args.r) (pos s.args.k ∷ [])
     (omega (arith, s.requires, fits s))
 
-pub put_bytes-i-requires : goal.put_bytes-i-requires
-put_bytes-i-requires c =
-    rw c.letters-l.ensures (room-1 (rooms (goal.at.put_bytes-i-requires c).Start))
-
 pub put_field-j-requires : goal.put_field-j-requires
 put_field-j-requires c =
     room-2 (rooms (goal.at.put_field-j-requires c).Start)
-    (same-put _ _ c.letters-l.ensures (c.put_bytes-i.ensures.behind, c.put_bytes-i.ensures.leaves))
+    (same-put _ _ (c.letters.ensures ∙ ap letters_of_kind c.kind.ensures) c.put_bytes-i.ensures)
 
 pub put_byte-requires : goal.put_byte-requires
 put_byte-requires c =
-    let put = same-put _ _ c.letters-l.ensures (c.put_bytes-i.ensures.behind, c.put_bytes-i.ensures.leaves) in
+    let put = same-put _ _ (c.letters.ensures ∙ ap letters_of_kind c.kind.ensures) c.put_bytes-i.ensures in
     omega (
       arith,
       room-3 (rooms (goal.at.put_byte-requires c).Start) put
-          (c.put_field-j.ensures.behind, c.put_field-j.ensures.leaves),
+          c.put_field-j.ensures,
     )
 
 pub returns : goal.returns
 returns c =
     let put =
     line-put c.args.lines.now c.args.at (letters_of c.args.r) (pos c.args.k ∷ []) (rooms (goal.at.returns c).Start)
-    (same-put _ _ c.letters-l.ensures (c.put_bytes-i.ensures.behind, c.put_bytes-i.ensures.leaves))
-    (c.put_field-j.ensures.behind, c.put_field-j.ensures.leaves)
-    (c.put_byte.ensures.behind, c.put_byte.ensures.leaves) in
+    (same-put _ _ (c.letters.ensures ∙ ap letters_of_kind c.kind.ensures) c.put_bytes-i.ensures)
+    c.put_field-j.ensures
+    c.put_byte.ensures in
     record {
-      behind = put.0;
-      leaves = put.1;
-      few = omega (arith, put.0, fits (goal.at.returns c).Start);
+      behind = put.behind;
+      leaves = put.leaves;
+      few = omega (arith, put.behind, fits (goal.at.returns c).Start);
     }

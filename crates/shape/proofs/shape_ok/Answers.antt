@@ -1,27 +1,19 @@
--- `shape::shape_ok` meets its contract: the tests of the definition in another order, S and M first.
-use mathlib.Core.Path.{sym}
+-- `shape::shape_ok` meets its contract: the tests of the definition, with the sum of S and M capped.
+use Rattle.std.proofs.Common.{◌≡◌, ℕ, ◌+◌, ◌-◌, ◌^◌, Bool, true, false, min, leb, refl, arith, le-leb, leb-true, leb-false}
 use mathlib.Core.Bool.{and_assoc, and-true}
-use Prim.Native.Nat.{◌+◌}
-use native.Mathlib.Omega.{arith}
-use borrow.Author.Tests.{le-leb, lt-leb}
-use Rattle.lta_spec.specs.Shape.{shape_tests, shape_ok}
-use Rattle.lta_spec.proofs.ShapeLaws.{all-fails}
+use borrow.Author.Tests.{lt-leb}
+use Rattle.lta_spec.specs.Shape.{shape_ok}
 use Rattle.shape.proofs.shape_ok.Goals as goal
 
-pub returns-then-s-gt256 : goal.returns-then-s-gt256
-unfolding shape_ok
-returns-then-s-gt256 c =
-    let s = c.args.s in
-    sym (all-fails (shape_tests s) 7 (lt-leb (s.start + s.blocks) 256 (omega arith)))
-
-pub returns-then-s-gt256-2 : goal.returns-then-s-gt256-2
-unfolding shape_ok
-returns-then-s-gt256-2 c =
-    let s = c.args.s in
-    sym (all-fails (shape_tests s) 6 (lt-leb s.blocks 256 c.if-s-gt256-2.true))
+capped : (n : ℕ) → leb (min n (2 ^ 64 - 1)) 256 ≡ leb n 256
+capped n = by-test (leb n 256) refl
+  where
+    by-test : (t : Bool) → leb n 256 ≡ t → leb (min n (2 ^ 64 - 1)) 256 ≡ t
+    by-test true e = le-leb (min n (2 ^ 64 - 1)) 256 (omega (arith, leb-true n 256 e))
+    by-test false e = lt-leb (min n (2 ^ 64 - 1)) 256 (omega (arith, leb-false n 256 e))
 
 pub returns : goal.returns
 unfolding shape_ok
 returns c =
     let s = c.args.s in
-    rw (c.lag_count_ok-lags.ensures, le-leb s.blocks 256 c.if-s-gt256-2.false) (simp (and_assoc, and-true))
+    rw (c.lag_count_ok.ensures, c.saturating_add.ensures, capped (s.start + s.blocks)) (simp (and_assoc, and-true))

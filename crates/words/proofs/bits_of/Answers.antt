@@ -1,4 +1,4 @@
-use Rattle.std.proofs.Common.{◌≡◌, ◌+◌, get_or, add-one, arith}
+use Rattle.std.proofs.Common.{◌+◌, get_or, add-one, arith}
 use lib.Bits.{bit_or}
 use Rattle.lta_spec.specs.Words.{part}
 use Rattle.lta_spec.proofs.WordLaws.{part-zero}
@@ -7,22 +7,7 @@ use Rattle.words.proofs.PartTests.{every-part-next, bits-next}
 use Rattle.words.proofs.bits_of.Goals as goal
 
 pub loop-i-init : goal.loop-i-init
-loop-i-init c = (omega arith, rw part-zero)
-
-pub overflow_add-bits : goal.overflow_add-bits
-overflow_add-bits c = omega arith
-
-pub offset_bounds-s-at : goal.offset_bounds-s-at
-offset_bounds-s-at c = omega arith
-
-pub bounds-s-at : goal.bounds-s-at
-bounds-s-at c = omega arith
-
-pub overflow_add-i : goal.overflow_add-i
-overflow_add-i c = omega arith
-
-pub loop-i-smaller : goal.loop-i-smaller
-loop-i-smaller c = omega arith
+loop-i-init c = rw part-zero
 
 pub loop-i-preserved : goal.loop-i-preserved
 loop-i-preserved c =
@@ -31,9 +16,4 @@ loop-i-preserved c =
     let s = a.s.now in
     let x = get_or s (a.at + w.i) 0 in
     let more = every-part-next (at_most (bit_or w.bits x)) s a.at w.i (omega arith) in
-    (omega arith, rw (add-one, more) (bits-next w.bits x (part a.at w.i s) w.invariant.1))
-
-pub returns : goal.returns
-returns c =
-    let past : c.loop-i.i ≡ c.args.n = omega arith in
-    rw past at c.loop-i.invariant.1
+    rw (add-one, more) (bits-next w.bits x (part a.at w.i s) w.invariant)

@@ -14,9 +14,10 @@ law : (c : Start)
 law c = row_ok-at c.args.s.now c.args.at c.args.n c.args.limit c.requires.0
 
 pub returns-then-ticks-limit : goal.returns-then-ticks-limit
-returns-then-ticks-limit c = sym (law (goal.at.returns-then-ticks-limit c).Start ∙ simp (lt-leb _ _ c.if-ticks-limit.true))
+returns-then-ticks-limit c =
+    sym (law (goal.at.returns-then-ticks-limit c).Start
+    ∙ rw (le-leb _ _ c.if-ticks-limit.true, c.within.ensures))
 
-pub returns : goal.returns
-returns c =
-    sym (law (goal.at.returns c).Start
-    ∙ rw (le-leb _ _ c.if-ticks-limit.false, ← c.within.ensures))
+pub returns-else-ticks-limit : goal.returns-else-ticks-limit
+returns-else-ticks-limit c =
+    sym (law (goal.at.returns-else-ticks-limit c).Start ∙ rw (lt-leb _ _ c.if-ticks-limit.false))

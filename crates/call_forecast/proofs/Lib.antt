@@ -1,2 +1,0 @@
--- What the tests of an accepted forecast showed.
-pub mod Shown

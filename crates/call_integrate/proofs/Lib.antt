@@ -1,2 +1,0 @@
--- What the tests of an accepted integration showed.
-pub mod Shown

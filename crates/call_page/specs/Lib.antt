@@ -1,2 +1,0 @@
--- What a page that is not refused finds.
-pub mod Pages

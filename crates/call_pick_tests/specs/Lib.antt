@@ -1,2 +1,0 @@
--- What the contracts of the tests of a pick cite.
-pub mod Readies

@@ -1,2 +1,0 @@
--- What the tests of an accepted reading showed.
-pub mod Shown

@@ -1,8 +1,0 @@
--- `call_run::tested` meets its contract.
-use Rattle.call_run.proofs.tested.Goals as goal
-
-pub returns-then-ok : goal.returns-then-ok
-returns-then-ok c = rw c.if-ok.true
-
-pub returns-else-ok : goal.returns-else-ok
-returns-else-ok c = rw c.if-ok.false

@@ -1,0 +1,2 @@
+-- Laws of the stores of a frame's words.
+pub mod FrameStores

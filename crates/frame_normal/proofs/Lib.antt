@@ -1,0 +1,2 @@
+-- Laws of the verdict on a lag.
+pub mod Laws

@@ -1,2 +1,0 @@
--- Laws of the stores of a word.
-pub mod Laws

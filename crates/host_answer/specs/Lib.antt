@@ -1,2 +1,0 @@
--- What a host is told.
-pub mod Numbered

@@ -1,0 +1,2 @@
+-- Values in the front of a slice.
+pub mod Stores

@@ -1,2 +1,0 @@
--- Laws of the boundary.
-pub mod PackLaws

@@ -1,8 +1,0 @@
--- The record is whole, so each byte is there.
-use Rattle.script_records.specs.Records.{record_size}
-use native.Mathlib.Omega.{arith}
-use Rattle.script_records.proofs.integrate_in.Goals as goal
-
-pub bounds-b-2 : goal.bounds-b-2
-unfolding record_size
-bounds-b-2 c = omega arith

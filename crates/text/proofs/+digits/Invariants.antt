@@ -1,0 +1,5 @@
+-- The digits are counted from the last to the first.
+use Rattle.text.proofs.+digits.Given as goal
+
+abbrev pub decreases-digits : goal.decreases-digits
+decreases-digits l = l.n
