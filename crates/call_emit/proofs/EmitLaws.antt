@@ -82,7 +82,8 @@ module _ {s : Shape} {mem : List ℕ} {c bank bin : ℕ} {out : List ℕ} (q : E
 
   row_is : lent_row ≡ content.members
   row_is =
-      rw (b.start, b.width, lent cell (bin_row_at n k) (row_words n)) (row_of (laid fits) (F.bin_row n s.bins k b.below))
+      rw (b.start, b.width, lent cell (bin_row_at n k) (row_words n))
+      (row_of (laid fits) (F.bin_row n s.bins k b.below))
       ∙ ap (λ (x : Stamped Row). x.members) same
 
   pub emits-bin : Emits s accumulated c bank bin lent_stamp lent_row

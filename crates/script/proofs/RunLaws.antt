@@ -2,53 +2,23 @@
 use Prim.Native.Nat.{ℕ, ◌+◌, ◌*◌, ◌≤◌}
 use mathlib.Core.Path.{◌≡◌, refl, sym, ap, ◌∙◌}
 use mathlib.Core.Bool.{false}
-use mathlib.Core.List.{List, [], ◌∷◌, ◌++◌, append_assoc, append-nil}
+use mathlib.Core.List.{List, [], ◌++◌, append_assoc, append-nil}
 use native.Mathlib.Omega.{arith}
-use lib.IntN.{pos}
 use lib.ListN.{length, drop, length-append, length-drop}
 use lib.Seq.{drop-drop}
 use Rattle.lta_spec.specs.Words.{splice}
-use Rattle.lta_spec.specs.Answer.{Answer}
-use Rattle.lta_spec.specs.Answer.Answer.{refused, number, entry, fields, normal, no_data}
 use Rattle.lta_spec.specs.Demand.{engine_mem, engine_returns}
 use Rattle.lta_spec.proofs.WordLaws.{length-splice, splice-nil, splice-behind}
 use Rattle.script_records.specs.declared.Record.{Record}
-use Rattle.script_records.specs.declared.Record.TheVariants as kind
 use Rattle.script_records.specs.declared.Next.TheVariants as next
 use Rattle.script_bytes.specs.Bytes.{size_in, next_in, next_at, is_record, records_in, stops_at}
 use Rattle.script_bytes.proofs.HeadLaws.{whole}
 use Rattle.script_bytes.proofs.ListLaws.{first, no_more}
-use Rattle.script_calls.specs.Calls.{step_of, buffer_after}
-use Rattle.script_lines.specs.Lines.{line, letters_of, value_fields, answer_fields, answer_line, most_bytes}
+use Rattle.script_calls.specs.Calls.{step_of}
+use Rattle.script_lines.specs.Lines.{line, most_bytes}
 use Rattle.script_lines.proofs.LengthLaws.{line-room}
 use Rattle.script.specs.Run.{blank, script_leaves}
 use Rattle.script.specs.Text.{record_line, script_lines}
-
--- a line takes nothing of the buffer but an emission's frame
-same-fields : (r : Record) (a : Answer) (o p : List ℕ) → ((k : ℕ) → value_fields r k o ≡ value_fields r k p)
-    → answer_fields r a o ≡ answer_fields r a p
-same-fields r (refused k) o p h = refl
-same-fields r (number k) o p h = ap (λ zs. pos 0 ∷ zs) (h k)
-same-fields r (entry e) o p h = refl
-same-fields r (fields f) o p h = refl
-same-fields r (normal z) o p h = refl
-same-fields r no_data o p h = refl
-
-same_line : (r : Record) (a : Answer) (out mem : List ℕ)
-    → answer_line r a (buffer_after r out mem) ≡ answer_line r a (step_of r out mem).out
-same_line r a out mem = ap (line (letters_of r)) (same-fields r a _ _ (by_kind r))
-  where
-    by_kind : (r : Record) (k : ℕ)
-        → value_fields r k (buffer_after r out mem) ≡ value_fields r k (step_of r out mem).out
-    by_kind (kind.Tick t) k = refl
-    by_kind (kind.Dump d) k = refl
-    by_kind (kind.Integrate cell) k = refl
-    by_kind (kind.Emit e) k = refl
-
--- the line of what a record's call answered and left in the buffer
-pub line-is : (r : Record) (mem : List ℕ) {t : Answer} {frame : List ℕ} → t ≡ (step_of r blank mem).answer
-    → frame ≡ buffer_after r blank mem → answer_line r t frame ≡ record_line r mem
-line-is r mem told left = rw (told, left) (same_line r (step_of r blank mem).answer blank mem)
 
 -- the bytes from `at` on are still to be run; the lines of those before them were put
 pub record Ran (b mem₀ lines₀ : List ℕ) (at : ℕ) (mem lines : List ℕ) (len : ℕ) : Type 0 where

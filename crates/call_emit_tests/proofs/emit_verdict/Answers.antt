@@ -71,9 +71,9 @@ sound_passed c =
 
 -- what 9 says
 is_ready : (c : After-bin_start) → let a = c.args in let r = c.in_ok-run.run' in
+    let cell = S.cell_at r.shape a.c (run_of r.shape r.mem.now) in
     eqb (get_or c.in_ok-part.part.words.now c.bin_start.result 0) ready
-    ≡ eqb (bin_at r.shape.lags (bin_index r.shape.bins a.bank a.bin) (S.cell_at r.shape a.c (run_of r.shape r.mem.now))).state
-    ready
+    ≡ eqb (bin_at r.shape.lags (bin_index r.shape.bins a.bank a.bin) cell).state ready
 is_ready c =
     let a = c.args in
     let r = c.in_ok-run.run' in
@@ -90,7 +90,8 @@ pub bin_number-k-requires : goal.bin_number-k-requires
 bin_number-k-requires c =
     let a = c.args in
     let r = c.in_ok-run.run' in
-    let q = and_both (bank_ok a.bank) (ltb a.bin r.shape.bins) (passed NoBin c.unless.ensures refl c.in_ok-unless.was) in
+    let was = passed NoBin c.unless.ensures refl c.in_ok-unless.was in
+    let q = and_both (bank_ok a.bank) (ltb a.bin r.shape.bins) was in
     (ltb-true a.bank 2 q.0, rw (← c.in_ok-part.ensures.cell.bins) at (ltb-true a.bin r.shape.bins q.1))
 
 pub length-requires : goal.length-requires

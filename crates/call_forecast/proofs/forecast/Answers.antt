@@ -17,8 +17,8 @@ use Rattle.call_forecast.proofs.forecast.Goals as goal
 use Rattle.call_forecast.proofs.forecast.Goals.{In_ok-run, In_ok-part, In_ok-unless}
 
 -- 1 and 2 passed
-run_passed : (c : In_ok-run) → let a = c.args in let r = c.in_ok-run.run' in
-    S.verdict a.s a.mem.now (forecast a.cell) ≡ first_of (S.call_tests r.shape (forecast a.cell) (run_of r.shape r.mem.now))
+run_passed : (c : In_ok-run) → let a = c.args in let r = c.in_ok-run.run' in let call = forecast a.cell in
+    S.verdict a.s a.mem.now call ≡ first_of (S.call_tests r.shape call (run_of r.shape r.mem.now))
 run_passed c =
     let is = c.in_ok-run.ensures.run in rw (← is.0, ← is.1) (hosted (forecast c.args.cell) c.in_ok-run.run')
 

@@ -103,7 +103,8 @@ pub returns-in_err-unless-2 : goal.returns-in_err-unless-2
 returns-in_err-unless-2 c =
     let at = goal.at.returns-in_err-unless-2 c in
     let q = refused_keeps told _ _ _ (returned _ c.from_residual-in_err-unless-2.ensures)
-    (sound_passed at.In_ok-unless ∙ fails NothingHeld c.unless-2.ensures (is_held at.In_ok-part) _ c.in_err-unless-2.was) in
+    (sound_passed at.In_ok-unless
+    ∙ fails NothingHeld c.unless-2.ensures (is_held at.In_ok-part) _ c.in_err-unless-2.was) in
     record { answer = q.0; leaves = q.1.1 }
 
 -- the cell, and what its tests showed

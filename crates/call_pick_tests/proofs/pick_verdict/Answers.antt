@@ -18,11 +18,12 @@ use Rattle.call_run.proofs.RunLaws.{shape_is}
 use Rattle.call_run.proofs.ViewLaws.{hosted_in}
 use Rattle.call_pick_tests.proofs.ReadyTestLaws.{cell_below}
 use Rattle.call_pick_tests.proofs.pick_verdict.Goals as goal
-use Rattle.call_pick_tests.proofs.pick_verdict.Goals.{In_ok-run, In_ok-unless, In_ok-unless-2, After-next, After-ready_number}
+use Rattle.call_pick_tests.proofs.pick_verdict.Goals.{In_ok-run, In_ok-unless, In_ok-unless-2, After-next}
+use Rattle.call_pick_tests.proofs.pick_verdict.Goals.{After-ready_number}
 
 -- 1 and 2 passed
-run_passed : (c : In_ok-run) → let a = c.args in let r = c.in_ok-run.run' in
-    S.verdict a.s a.mem.now (pick a.out.now) ≡ first_of (S.call_tests r.shape (pick a.out.now) (run_of r.shape r.mem.now))
+run_passed : (c : In_ok-run) → let a = c.args in let r = c.in_ok-run.run' in let call = pick a.out.now in
+    S.verdict a.s a.mem.now call ≡ first_of (S.call_tests r.shape call (run_of r.shape r.mem.now))
 run_passed c =
     let is = c.in_ok-run.ensures.run in rw (← is.0, ← is.1) (hosted (pick c.args.out.now) c.in_ok-run.run')
 

@@ -16,7 +16,8 @@ use Rattle.call_run.proofs.FirstLaws.{returned, fails, passes, passed, says, unh
 use Rattle.call_run.proofs.RunLaws.{shape_is}
 use Rattle.call_run.proofs.ViewLaws.{hosted_in}
 use Rattle.call_tick_tests.proofs.tick_verdict.Goals as goal
-use Rattle.call_tick_tests.proofs.tick_verdict.Goals.{In_ok-run, In_ok-unless, In_ok-unless-2, In_ok-unless-3, After-time-t}
+use Rattle.call_tick_tests.proofs.tick_verdict.Goals.{In_ok-run, In_ok-unless, In_ok-unless-2, In_ok-unless-3}
+use Rattle.call_tick_tests.proofs.tick_verdict.Goals.{After-time-t}
 
 -- 1 and 2 passed
 run_passed : (c : In_ok-run) → let a = c.args in let r = c.in_ok-run.run' in let call = tick a.samples.now in
@@ -75,7 +76,8 @@ pub returns-in_err-unless-3 : goal.returns-in_err-unless-3
 returns-in_err-unless-3 c =
     let at = goal.at.returns-in_err-unless-3 c in
     returned _ c.from_residual-in_err-unless-3.ensures
-    ∙ sym (validity_passed at.In_ok-unless-2 ∙ fails RunFull c.unless-3.ensures (not_full at.After-time-t) _ c.in_err-unless-3.was)
+    ∙ sym (validity_passed at.In_ok-unless-2
+    ∙ fails RunFull c.unless-3.ensures (not_full at.After-time-t) _ c.in_err-unless-3.was)
 
 pub returns : goal.returns
 returns c =

@@ -10,7 +10,8 @@ returns-then-is_empty c = sym (nothing c.args.b.now (eqb-true _ 0 (sym c.if-is_e
 
 pub returns-else-is_empty : goal.returns-else-is_empty
 returns-else-is_empty c =
-    sym (next-unknown c.args.b.now (eqb-false _ 0 (sym c.if-is_empty.ensures)) (sym c.kind_in.ensures ∙ c.in_default.is))
+    sym (next-unknown c.args.b.now (eqb-false _ 0 (sym c.if-is_empty.ensures))
+    (sym c.kind_in.ensures ∙ c.in_default.is))
 
 pub returns-then-size-b : goal.returns-then-size-b
 returns-then-size-b c =
