@@ -1,7 +1,7 @@
 // The tests of a pick, and the cell that it takes.
 #![tactic(auto)]
 
-ghost use Rattle.std.specs.Prelude.{◌≡◌, ◌<◌};
+ghost use Rattle.std.specs.Prelude.{◌≡◌, ◌&&◌, ◌<◌, ltb};
 ghost use Rattle.lta_spec.specs.Call.Call.{pick};
 ghost use Rattle.lta_spec.specs.Damage.{picks_sound};
 ghost use Rattle.lta_spec.specs.Step.{unit_at, picked_cell, verdict};
@@ -23,6 +23,15 @@ fn cells_sound(run: Run, t: u64) -> bool
         ok &= pick_sound(run.cell_at(c), t);
     }
     ok
+}
+
+// Does a pick find the run's place, and every cell, as the engine leaves them? The place first: it is one word.
+fn parts_sound(run: Run, t: u64) -> bool
+    ensures { result
+        ≡ picks_sound run.entry.shape.bins t (run_of run.entry.shape run.entry.mem.now).units
+        && ltb (run_of run.entry.shape run.entry.mem.now).next run.entry.shape.cells }
+{
+    run.next() < run.shape.cells && cells_sound(run, t)
 }
 
 // The Ready number of cell c.
@@ -56,7 +65,7 @@ pub fn pick_verdict(s: Shape, mem: &[u64], out: &[u8]) -> Result<(), Refusal>
 {
     let run = Run::of(s, mem)?;
     let t = run.time();
-    let parts = cells_sound(run, t) & (run.next() < run.shape.cells);
+    let parts = parts_sound(run, t);
     Refusal::Damaged.unless((t <= RUN_LIMIT) & parts)?;
     Refusal::NothingReady.unless(ready_number(run, picked_cell(run)) > 0)?;
     Refusal::ShortBuffer.unless(FrameKind::Accumulated.length(run.shape.lags) <= out.len() as u64)

@@ -6,6 +6,28 @@ ghost use Rattle.frame_header.specs.Kind.{kind_number};
 use crate::BIAS;
 use lta_spec::{ACCUMULATED, Fields, SPEED_FRAME};
 
+// How many header words a frame of a kind has, by the kind's number: any but a speed frame's as the accumulator's.
+pub fn head_words(kind: u32) -> usize
+    ensures { (result ≡ head_words kind) × (7 ≤ result) × (result ≤ 8) }
+{
+    if kind == SPEED_FRAME { BIAS + 1 } else { BIAS }
+}
+
+// Where the lag pairs of a frame start, in bytes: behind mark and header words.
+pub fn lags_at(kind: u32) -> u64
+    ensures { (result ≡ lags_at kind) × (result ≤ 34) }
+{
+    2 + 4 * head_words(kind) as u64
+}
+
+// The bytes of a frame of so many lags: mark, header words, lag pairs and last word.
+pub fn frame_length(kind: u32, lags: u64) -> u64
+    requires { lags ≤ 128 }
+    ensures { result ≡ frame_length kind lags }
+{
+    lags_at(kind) + 8 * lags + 4
+}
+
 #[derive(Clone, Copy, Debug, PartialEq, Eq)]
 pub enum FrameKind {
     // A frame that the accumulator sends.
@@ -45,25 +67,22 @@ impl FrameKind {
     pub fn head_words(self) -> usize
         ensures { (result ≡ head_words (kind_number self)) × (7 ≤ result) × (result ≤ 8) }
     {
-        match self {
-            FrameKind::Accumulated => BIAS,
-            FrameKind::Speed => BIAS + 1,
-        }
+        head_words(self.into())
     }
 
-    // Where the lag pairs of a frame start, in bytes: behind mark and header words.
+    // Where the lag pairs of a frame start, in bytes.
     pub fn lags_at(self) -> u64
         ensures { (result ≡ lags_at (kind_number self)) × (result ≤ 34) }
     {
-        2 + 4 * self.head_words() as u64
+        lags_at(self.into())
     }
 
-    // The bytes of a frame of so many lags: mark, header words, lag pairs and last word.
+    // The bytes of a frame of so many lags.
     pub fn length(self, lags: u64) -> u64
         requires { lags ≤ 128 }
         ensures { result ≡ frame_length (kind_number self) lags }
     {
-        self.lags_at() + 8 * lags + 4
+        frame_length(self.into(), lags)
     }
 }
 

@@ -11,7 +11,7 @@ mod kind;
 mod whole;
 
 use frame_codec::{put_word, put_words, word_at};
-pub use kind::FrameKind;
+pub use kind::{FrameKind, frame_length, head_words, lags_at};
 use lta_spec::{ACCUMULATED, Fields, PEAK, SPEED_FRAME};
 pub use whole::put_frame_of;
 

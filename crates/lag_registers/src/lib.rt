@@ -9,14 +9,17 @@ ghost use Rattle.lag_registers.specs.Registers.{low_word, word, Decodes, Registe
 
 use signal::{phase_of, sample_of, valid_of};
 
-// A shift register moves: it takes a new entry, and the oldest falls out.
+// A shift register moves: it takes a new entry, and the oldest falls out. From its end, so that each word is read
+// before it is written; `copy_within` would make programs in C need memmove.
 pub fn shift(s: &mut [u64], at: usize, depth: usize, entry: u64)
     requires { (at + depth ≤ length s.old) × (1 ≤ depth) }
     ensures { s.new
         ≡ splice s.old at (take depth (entry ∷ part at depth s.old)) }
 {
     let register = &mut s[at..at + depth];
-    register.copy_within(..depth - 1, 1);
+    for j in (1..depth).rev() {
+        register[j] = register[j - 1];
+    }
     register[0] = entry;
 }
 

@@ -18,7 +18,7 @@ use Rattle.call_run.proofs.RunLaws.{shape_is}
 use Rattle.call_run.proofs.ViewLaws.{hosted_in}
 use Rattle.call_pick_tests.proofs.ReadyTestLaws.{cell_below}
 use Rattle.call_pick_tests.proofs.pick_verdict.Goals as goal
-use Rattle.call_pick_tests.proofs.pick_verdict.Goals.{In_ok-run, In_ok-unless, In_ok-unless-2, After-next}
+use Rattle.call_pick_tests.proofs.pick_verdict.Goals.{In_ok-run, In_ok-unless, In_ok-unless-2, After-parts_sound-parts}
 use Rattle.call_pick_tests.proofs.pick_verdict.Goals.{After-ready_number}
 
 -- 1 and 2 passed
@@ -28,29 +28,29 @@ run_passed c =
     let is = c.in_ok-run.ensures.run in rw (← is.0, ← is.1) (hosted (pick c.args.out.now) c.in_ok-run.run')
 
 -- what 11 says
-sound : (c : After-next) → let r = c.in_ok-run.run' in let u = run_of r.shape r.mem.now in
-    leb c.time-t.result run_limit && (c.cells_sound.result && ltb c.next.result r.shape.cells)
+sound : (c : After-parts_sound-parts) → let r = c.in_ok-run.run' in let u = run_of r.shape r.mem.now in
+    leb c.time-t.result run_limit && c.parts_sound-parts.result
     ≡ leb u.t run_limit && (picks_sound r.shape.bins u.t u.units && ltb u.next r.shape.cells)
 sound c =
     let r = c.in_ok-run.run' in
     let u = run_of r.shape r.mem.now in
     ap₂ (λ x y. leb x run_limit && y) c.time-t.ensures
-    (ap₂ (λ x k. x && ltb k r.shape.cells)
-    (c.cells_sound.ensures ∙ ap (λ t. picks_sound r.shape.bins t u.units) c.time-t.ensures) c.next.ensures)
+    (c.parts_sound-parts.ensures
+    ∙ ap (λ t. picks_sound r.shape.bins t u.units && ltb u.next r.shape.cells) c.time-t.ensures)
 
 sound_passed : (c : In_ok-unless) → let a = c.args in let r = c.in_ok-run.run' in
     S.verdict a.s a.mem.now (pick a.out.now)
     ≡ first_of (drop 1 (S.call_tests r.shape (pick a.out.now) (run_of r.shape r.mem.now)))
 sound_passed c =
     let at = goal.at.In_ok-unless c in
-    run_passed at.In_ok-run ∙ passes Damaged c.unless.ensures (sound at.After-next) c.in_ok-unless.was
+    run_passed at.In_ok-run ∙ passes Damaged c.unless.ensures (sound at.After-parts_sound-parts) c.in_ok-unless.was
 
 -- the run's place is among the cells
 placed : (c : In_ok-unless) → let r = c.in_ok-run.run' in (run_of r.shape r.mem.now).next < r.shape.cells
 placed c =
     let r = c.in_ok-run.run' in
     let u = run_of r.shape r.mem.now in
-    let q = passed Damaged c.unless.ensures (sound (goal.at.In_ok-unless c).After-next) c.in_ok-unless.was in
+    let q = passed Damaged c.unless.ensures (sound (goal.at.In_ok-unless c).After-parts_sound-parts) c.in_ok-unless.was in
     let p = and_both (leb u.t run_limit) _ q in
     ltb-true u.next r.shape.cells (and_both (picks_sound r.shape.bins u.t u.units) _ p.1).1
 
@@ -83,7 +83,7 @@ pub returns-in_err-unless : goal.returns-in_err-unless
 returns-in_err-unless c =
     let at = goal.at.returns-in_err-unless c in
     returned _ c.from_residual-in_err-unless.ensures
-    ∙ sym (run_passed at.In_ok-run ∙ fails Damaged c.unless.ensures (sound at.After-next) _ c.in_err-unless.was)
+    ∙ sym (run_passed at.In_ok-run ∙ fails Damaged c.unless.ensures (sound at.After-parts_sound-parts) _ c.in_err-unless.was)
 
 pub returns-in_err-unless-2 : goal.returns-in_err-unless-2
 returns-in_err-unless-2 c =
