@@ -5,15 +5,13 @@
 mod losses;
 mod sweep;
 
-use std::io;
-use test_lib_row::lines;
 use test_lib_tools::report::Tally;
 
-fn main(rt: HostRuntime) -> io::Result<()> {
+fn main(rt: HostRuntime) {
     let mut total = Tally::default();
     for lags in [2, 4] {
-        total.include(&lines(&rt, u64::from(lags), &sweep::groups(lags))?);
+        sweep::groups(&rt, &mut total, lags);
     }
-    total.include(&lines(&rt, 2, &[("losses", losses::pages())])?);
-    total.verdict(&rt)
+    total.group(&rt, 2, "losses", losses::pages());
+    total.verdict(&rt);
 }

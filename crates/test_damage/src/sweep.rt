@@ -180,23 +180,23 @@ fn plain(lags: u8, op: Op) -> Tally {
 }
 
 // All calls with N lags.
-pub fn groups(lags: u8) -> [(&'static str, Tally); 11] {
+pub fn groups(rt: &impl Print, total: &mut Tally, lags: u8) {
     let samples = Samples {
         x: 0x35,
         y: 0x2b,
         validity: 3,
     };
-    [
-        ("tick", of_open(lags, Op::Tick(samples))),
-        ("keep", dumps(lags, &[SAVE, ADD, LAST])),
-        ("discard", dumps(lags, &[ORDERED])),
-        ("idle", dumps(lags, &[IDLE])),
-        ("integr.", integrations(lags)),
-        ("emit", emissions(lags)),
-        ("reading", plain(lags, Op::Reading { lag: 1, loss: 4 })),
-        ("forecast", of_open(lags, Op::Forecast)),
-        ("page", plain(lags, Op::Page)),
-        ("speed", dumps(lags, &[SPEED_DUMP])),
-        ("pick", picks(lags)),
-    ]
+    let reading = Op::Reading { lag: 1, loss: 4 };
+    let n = u64::from(lags);
+    total.group(rt, n, "tick", of_open(lags, Op::Tick(samples)));
+    total.group(rt, n, "keep", dumps(lags, &[SAVE, ADD, LAST]));
+    total.group(rt, n, "discard", dumps(lags, &[ORDERED]));
+    total.group(rt, n, "idle", dumps(lags, &[IDLE]));
+    total.group(rt, n, "integr.", integrations(lags));
+    total.group(rt, n, "emit", emissions(lags));
+    total.group(rt, n, "reading", plain(lags, reading));
+    total.group(rt, n, "forecast", of_open(lags, Op::Forecast));
+    total.group(rt, n, "page", plain(lags, Op::Page));
+    total.group(rt, n, "speed", dumps(lags, &[SPEED_DUMP]));
+    total.group(rt, n, "pick", picks(lags));
 }

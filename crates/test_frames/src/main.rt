@@ -7,67 +7,51 @@
 mod example;
 mod normal;
 
-use std::io;
 use test_lib_frame_rows::{damage, order, sweep, writer};
 use test_lib_frames::build::Frame;
 use test_lib_tools::bytes::Kind;
-use test_lib_tools::report::{Tally, line};
+use test_lib_tools::report::Tally;
+
+// A group that was run with frames like this one: its line, as soon as it is done, and its rows.
+fn group(rt: &impl Print, total: &mut Tally, base: Frame, name: &str, rows: Tally) {
+    let _ = print!(rt; "kind {}, ", base.kind.number());
+    total.group(rt, base.lags, name, rows);
+}
 
 // The groups that are run once, with frames of N = 2.
-fn once(base: Frame) -> [(&'static str, Tally); 5] {
-    [
-        ("example", example::frames(base.kind)),
-        ("no ticks", normal::no_ticks(base)),
-        ("bad N", order::bad_shapes(base)),
-        ("reading", order::reading(base)),
-        ("writing", order::writing(base)),
-    ]
+fn once(rt: &impl Print, total: &mut Tally, base: Frame) {
+    group(rt, total, base, "example", example::frames(base.kind));
+    group(rt, total, base, "no ticks", normal::no_ticks(base));
+    group(rt, total, base, "bad N", order::bad_shapes(base));
+    group(rt, total, base, "reading", order::reading(base));
+    group(rt, total, base, "writing", order::writing(base));
 }
 
 // The groups that are run with frames of each N.
-fn at_each_n(base: Frame) -> [(&'static str, Tally); 14] {
-    [
-        ("length", damage::lengths(base)),
-        ("mark", damage::marks(base)),
-        ("last sum", damage::last_words(base)),
-        ("words", damage::words(base)),
-        ("bits", damage::bits(base)),
-        ("lags", normal::lags(base)),
-        ("quotient", normal::quotients(base)),
-        ("fields", writer::fields(base)),
-        ("limits", writer::lags(base)),
-        ("counts", writer::counts(base)),
-        ("buffers", writer::rooms(base)),
-        ("greatest", sweep::greatest(base)),
-        ("random", sweep::random(base)),
-        ("damage", sweep::damaged(base)),
-    ]
+fn at_each_n(rt: &impl Print, total: &mut Tally, base: Frame) {
+    group(rt, total, base, "length", damage::lengths(base));
+    group(rt, total, base, "mark", damage::marks(base));
+    group(rt, total, base, "last sum", damage::last_words(base));
+    group(rt, total, base, "words", damage::words(base));
+    group(rt, total, base, "bits", damage::bits(base));
+    group(rt, total, base, "lags", normal::lags(base));
+    group(rt, total, base, "quotient", normal::quotients(base));
+    group(rt, total, base, "fields", writer::fields(base));
+    group(rt, total, base, "limits", writer::lags(base));
+    group(rt, total, base, "counts", writer::counts(base));
+    group(rt, total, base, "buffers", writer::rooms(base));
+    group(rt, total, base, "greatest", sweep::greatest(base));
+    group(rt, total, base, "random", sweep::random(base));
+    group(rt, total, base, "damage", sweep::damaged(base));
 }
 
-// The lines of groups, whose rows come into the total.
-fn print_lines(
-    rt: &impl Print,
-    total: &mut Tally,
-    base: Frame,
-    groups: &[(&str, Tally)],
-) -> io::Result<()> {
-    for (name, tally) in groups {
-        print!(rt; "kind {}, ", base.kind.number())?;
-        line(rt, base.lags, name, tally)?;
-        total.include(tally);
-    }
-    Ok(())
-}
-
-fn main(rt: HostRuntime) -> io::Result<()> {
+fn main(rt: HostRuntime) {
     let mut total = Tally::default();
     for kind in [Kind::Binned, Kind::Speed] {
-        let base = Frame::base(kind, 2);
-        print_lines(&rt, &mut total, base, &once(base))?;
+        once(&rt, &mut total, Frame::base(kind, 2));
         for n in [2, 6, 128] {
-            let base = Frame::base(kind, n);
-            print_lines(&rt, &mut total, base, &at_each_n(base))?;
+            at_each_n(&rt, &mut total, Frame::base(kind, n));
         }
     }
-    total.verdict(&rt)
+    total.verdict(&rt);
 }

@@ -3,6 +3,7 @@ use lta_spec::Refusal;
 use test_lib_frames::ask::{expect_read, is_normal, normal};
 use test_lib_frames::build::{Content, Field, Frame};
 use test_lib_tools::bytes::head;
+use test_lib_tools::refusal::unless;
 use test_lib_tools::report::Tally;
 
 // Lags whose place in the frame wraps round to a good one.
@@ -54,7 +55,7 @@ pub fn no_ticks(base: Frame) -> Tally {
     let frame = base.with(Content::Full(0));
     for lag in [0, 1, u32::MAX] {
         let s = frame.bytes_with(frame.kind.heads() + 3, lag, 0);
-        let due = Refusal::BadField.unless(lag == 0);
+        let due = unless(lag == 0, Refusal::BadField);
         expect_read(&mut t, frame.lags, &s, frame.length(), due);
     }
     t

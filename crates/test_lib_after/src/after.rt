@@ -1,19 +1,18 @@
 // The words that are due after an accepted call on any words of work memory, from those before it.
-use crate::changes::{Dump, Integration, Tick, emitted, picked};
+use crate::changes::{Dump, Integration, Tick, Word, emitted, picked};
 use test_lib_memory::cells::{Cell, Run};
-use test_lib_memory::map::Place;
 use test_lib_rules::call::{Call, IDLE, Op};
 use test_lib_rules::places::behind;
-use test_lib_tools::words::get;
+use test_lib_tools::words::{get, head};
 
 // What an accepted call does to a cell.
 #[derive(Drop)]
 enum Change<'a> {
-    None(Cell<'a>),
+    None,
     Tick(Tick<'a>),
     Dump(Dump<'a>),
     Integration(Integration<'a>),
-    Emission(Cell<'a>, u64),
+    Emission(u64),
     Pick(Cell<'a>, u64),
 }
 
@@ -22,7 +21,7 @@ impl<'a> Change<'a> {
     fn in_cell(cell: Cell<'a>, op: Op) -> Change<'a> {
         let layout = cell.run.layout;
         match op {
-            Op::Dump { command: IDLE, .. } => Change::None(cell),
+            Op::Dump { command: IDLE, .. } => Change::None,
             Op::Dump {
                 command,
                 bank,
@@ -34,9 +33,9 @@ impl<'a> Change<'a> {
                 phase,
             }),
             Op::Integrate => Change::Integration(Integration::of(cell)),
-            Op::Emit(bin) => Change::Emission(cell, layout.number(bin)),
+            Op::Emit(bin) => Change::Emission(layout.number(bin)),
             Op::Pick(Some(bin)) => Change::Pick(cell, layout.number(bin)),
-            _ => Change::None(cell),
+            _ => Change::None,
         }
     }
 
@@ -46,29 +45,39 @@ impl<'a> Change<'a> {
         match k.op {
             Op::Tick(samples) => Change::Tick(Tick { cell, samples }),
             op if c == k.cell => Change::in_cell(cell, op),
-            _ => Change::None(cell),
+            _ => Change::None,
         }
     }
 
     // The word that is due.
-    fn word(&self, place: Place) -> u64 {
+    fn word(&self, word: Word) -> u64 {
         match self {
-            Change::None(cell) => cell.word(place),
-            Change::Tick(tick) => tick.word(place),
-            Change::Dump(dump) => dump.word(place),
-            Change::Integration(integration) => integration.word(place),
-            Change::Emission(cell, q) => emitted(*cell, *q, place),
-            Change::Pick(cell, q) => picked(*cell, *q, place),
+            Change::None => word.old,
+            Change::Tick(tick) => tick.word(word),
+            Change::Dump(dump) => dump.word(word),
+            Change::Integration(integration) => integration.word(word),
+            Change::Emission(q) => emitted(*q, word),
+            Change::Pick(cell, q) => picked(*cell, *q, word),
         }
     }
 }
 
-// Are the words of cell c what is due?
+// Are the words of cell c what is due? A cell that the call is not about keeps them.
 fn is_cell_right(now: &Run<'_>, old: &Run<'_>, k: Call, c: u64) -> bool {
     let layout = old.layout;
-    let words = now.cell(c).words;
-    let due = Change::of(old, k, c);
-    (0..layout.cell_words()).all(|j| get(words, j) == due.word(layout.place(j)))
+    let count = layout.cell_words();
+    let words = head(now.cell(c).words, count);
+    let before = head(old.cell(c).words, count);
+    match Change::of(old, k, c) {
+        Change::None => words == before,
+        due => (0..count).all(|j| {
+            let word = Word {
+                place: layout.place(j),
+                old: get(before, j),
+            };
+            get(words, j) == due.word(word)
+        }),
+    }
 }
 
 // Are t, and the cell at which the next pick starts, what is due?

@@ -7,28 +7,35 @@ use test_lib_rules::history::{Quantity, Sample, Samples, pair};
 use test_lib_rules::places::behind;
 use test_lib_tools::bytes::PEAK;
 
+// A word of a cell: what it is, and its value before the call.
+#[derive(Clone, Copy)]
+pub struct Word {
+    pub place: Place,
+    pub old: u64,
+}
+
 // The word where a set's row is empty.
-fn emptied(cell: Cell<'_>, from: Set, place: Place) -> u64 {
-    match place {
+fn emptied(from: Set, word: Word) -> u64 {
+    match word.place {
         Place::Row(set, _) if set == from => 0,
-        _ => cell.word(place),
+        _ => word.old,
     }
 }
 
 // The word where a set's row goes to another one, and is empty.
-fn moved(cell: Cell<'_>, from: Set, to: Set, place: Place) -> u64 {
-    match place {
-        Place::Row(set, i) if set == to => cell.word(place).wrapping_add(cell.row(from).word(i)),
-        _ => emptied(cell, from, place),
+fn moved(cell: Cell<'_>, from: Set, to: Set, word: Word) -> u64 {
+    match word.place {
+        Place::Row(set, i) if set == to => word.old.wrapping_add(cell.row(from).word(i)),
+        _ => emptied(from, word),
     }
 }
 
 // The word where Held's row takes the place of a set's, which goes to loss 4.
-fn replaced(cell: Cell<'_>, set: Set, place: Place) -> u64 {
-    match place {
+fn replaced(cell: Cell<'_>, set: Set, word: Word) -> u64 {
+    match word.place {
         Place::Row(Set::Held, _) => 0,
         Place::Row(here, i) if here == set => cell.row(Set::Held).word(i),
-        _ => moved(cell, set, Set::Lost(Loss::Replaced), place),
+        _ => moved(cell, set, Set::Lost(Loss::Replaced), word),
     }
 }
 
@@ -68,7 +75,7 @@ impl Dump<'_> {
 
     // Open's stamp, the block and the last command move, whether it is kept or not; where it is, label and stamp of
     // Held.
-    fn field(self, field: Field) -> u64 {
+    fn field(self, field: Field, old: u64) -> u64 {
         let kept = self.to() == Some(Set::Held);
         match field {
             Field::OpenStamp => self.cell.run.now(),
@@ -79,15 +86,15 @@ impl Dump<'_> {
             Field::Bank if kept => self.bank,
             Field::Bin if kept => self.bin(),
             Field::HeldStamp if kept => self.cell.field(Field::OpenStamp),
-            _ => self.cell.field(field),
+            _ => old,
         }
     }
 
-    pub fn word(self, place: Place) -> u64 {
-        match (place, self.to()) {
-            (Place::Field(field), _) => self.field(field),
-            (_, Some(to)) => moved(self.cell, Set::Open, to, place),
-            (_, None) => emptied(self.cell, Set::Open, place),
+    pub fn word(self, word: Word) -> u64 {
+        match (word.place, self.to()) {
+            (Place::Field(field), _) => self.field(field, word.old),
+            (_, Some(to)) => moved(self.cell, Set::Open, to, word),
+            (_, None) => emptied(Set::Open, word),
         }
     }
 }
@@ -133,40 +140,40 @@ impl<'a> Integration<'a> {
         self.cell.field(Field::Ready).wrapping_add(u64::from(made))
     }
 
-    fn row_word(self, place: Place) -> u64 {
+    fn row_word(self, word: Word) -> u64 {
         let bin = Set::Bin(self.q);
         match self.loss {
-            None => moved(self.cell, Set::Held, bin, place),
-            Some(Loss::Replaced) => replaced(self.cell, bin, place),
-            Some(loss) => moved(self.cell, Set::Held, Set::Lost(loss), place),
+            None => moved(self.cell, Set::Held, bin, word),
+            Some(Loss::Replaced) => replaced(self.cell, bin, word),
+            Some(loss) => moved(self.cell, Set::Held, Set::Lost(loss), word),
         }
     }
 
-    pub fn word(self, place: Place) -> u64 {
-        match place {
+    pub fn word(self, word: Word) -> u64 {
+        match word.place {
             Place::Field(Field::Flag) => 0,
             Place::Field(Field::Ready) => self.ready(),
             Place::State(q) if q == self.q => self.state() as u64,
             Place::Stamp(q) if q == self.q => self.stamp(),
-            _ => self.row_word(place),
+            _ => self.row_word(word),
         }
     }
 }
 
 // An emission of bin q: it is Free and empty, and keeps its stamp; one Ready bin less.
-pub fn emitted(cell: Cell<'_>, q: u64, place: Place) -> u64 {
-    match place {
-        Place::Field(Field::Ready) => cell.field(Field::Ready).saturating_sub(1),
+pub fn emitted(q: u64, word: Word) -> u64 {
+    match word.place {
+        Place::Field(Field::Ready) => word.old.saturating_sub(1),
         Place::State(here) if here == q => 0,
-        _ => emptied(cell, Set::Bin(q), place),
+        _ => emptied(Set::Bin(q), word),
     }
 }
 
 // A pick of bin q: the next one starts behind it.
-pub fn picked(cell: Cell<'_>, q: u64, place: Place) -> u64 {
-    match place {
+pub fn picked(cell: Cell<'_>, q: u64, word: Word) -> u64 {
+    match word.place {
         Place::Field(Field::NextBin) => behind(q, 1, cell.run.layout.places()),
-        _ => emitted(cell, q, place),
+        _ => emitted(q, word),
     }
 }
 
@@ -213,16 +220,16 @@ impl Tick<'_> {
     }
 
     // Open or loss 6, then the registers.
-    pub fn word(self, place: Place) -> u64 {
+    pub fn word(self, word: Word) -> u64 {
         let to = if self.cell.is_full() {
             Set::Lost(Loss::Holdoff)
         } else {
             Set::Open
         };
-        match place {
-            Place::Row(set, i) if set == to => self.cell.word(place).wrapping_add(self.row_adds(i)),
+        match word.place {
+            Place::Row(set, i) if set == to => word.old.wrapping_add(self.row_adds(i)),
             Place::Entry(stream, d) => self.entry(stream, d),
-            _ => self.cell.word(place),
+            _ => word.old,
         }
     }
 }

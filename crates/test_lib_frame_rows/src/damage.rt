@@ -3,6 +3,7 @@ use lta_spec::Refusal;
 use test_lib_frames::ask::expect_read;
 use test_lib_frames::build::{Frame, Near};
 use test_lib_tools::bytes::{Kind, put, sum};
+use test_lib_tools::refusal::unless;
 use test_lib_tools::report::Tally;
 
 // 13, "when the length is neither kind's": the right length; a byte, a word and many more; no byte, the mark alone, a
@@ -30,7 +31,7 @@ pub fn marks(base: Frame) -> Tally {
         let mut s = base.bytes();
         for v in 0..=u8::MAX {
             put(&mut s, at, v);
-            let due = Refusal::WrongMark.unless(v == right);
+            let due = unless(v == right, Refusal::WrongMark);
             expect_read(&mut t, base.lags, &s, base.length(), due);
         }
     }
@@ -60,7 +61,7 @@ pub fn last_words(base: Frame) -> Tally {
     let mut s = base.bytes();
     for add in addends(base) {
         base.seal(&mut s, add);
-        let due = Refusal::WrongSum.unless(add == 0);
+        let due = unless(add == 0, Refusal::WrongSum);
         expect_read(&mut t, base.lags, &s, base.length(), due);
     }
     t
@@ -87,7 +88,7 @@ fn for_kind(kind: Kind, k: usize, w: u32) -> u32 {
 
 // What is due to another word k of the header that keeps to 16: 18 where DATA_BIAS then differs from 128 × ticks.
 fn bias_due(kind: Kind, k: usize) -> Result<(), Refusal> {
-    Refusal::WrongBias.unless(kind == Kind::Binned || k != 2 && k != 7)
+    unless(kind == Kind::Binned || k != 2 && k != 7, Refusal::WrongBias)
 }
 
 // Header words that keep to 16: the word's number, and its value.

@@ -3,6 +3,7 @@ use lta_spec::Refusal;
 use test_lib_frames::ask::{Writing, expect_read, expect_write};
 use test_lib_frames::build::{Content, Field, Frame, Near};
 use test_lib_tools::bytes::{Kind, put};
+use test_lib_tools::refusal::unless;
 use test_lib_tools::report::Tally;
 
 // N out of "even, 2 to 128"; if a cast or a sum wrapped, the last four would give the length of a frame of N = 2.
@@ -74,7 +75,7 @@ fn flags(i: u8) -> [bool; 6] {
 // The first that applies.
 fn first_of<const K: usize>(tests: [(bool, Refusal); K]) -> Result<(), Refusal> {
     for (applies, refusal) in tests {
-        refusal.unless(!applies)?;
+        unless(!applies, refusal)?;
     }
     Ok(())
 }

@@ -5,6 +5,7 @@ use lta_spec::Refusal;
 use test_lib_frames::ask::{Writing, expect_read, expect_write};
 use test_lib_frames::build::{Content, Field, Frame, Near};
 use test_lib_tools::bytes::twice;
+use test_lib_tools::refusal::unless;
 use test_lib_tools::report::Tally;
 
 // "not 2N lag numbers": 2N; one, four and many more; none, two, one less and four less.
@@ -13,7 +14,7 @@ pub fn counts(base: Frame) -> Tally {
     let s = base.bytes();
     for near in Near::ALL {
         let count = near.of(twice(base.lags));
-        let due = Refusal::BadField.unless(near == Near::Right);
+        let due = unless(near == Near::Right, Refusal::BadField);
         let call = Writing {
             count,
             ..Writing::of(base)
@@ -30,7 +31,7 @@ pub fn rooms(base: Frame) -> Tally {
     let s = base.bytes();
     for near in Near::ALL {
         let room = near.of(base.length());
-        let due = Refusal::ShortBuffer.unless(room >= base.length());
+        let due = unless(room >= base.length(), Refusal::ShortBuffer);
         let call = Writing {
             room,
             ..Writing::of(base)

@@ -1,6 +1,7 @@
 // What the papers say of any bytes, written from their text alone: the model that the reader is compared with.
 use lta_spec::Refusal;
 use test_lib_tools::bytes::{Kind, PEAK, is_marked, word};
+use test_lib_tools::refusal::unless;
 
 // The kind whose length this is, if it is one's.
 pub fn kind_at(n: u64, len: usize) -> Option<Kind> {
@@ -38,10 +39,13 @@ fn is_bias_right(s: &[u8], kind: Kind) -> bool {
 
 // What the frame sender is told.
 pub fn due(n: u64, s: &[u8]) -> Result<(), Refusal> {
-    Refusal::BadShape.unless((2..=128).contains(&n) && n % 2 == 0)?;
+    unless((2..=128).contains(&n) && n % 2 == 0, Refusal::BadShape)?;
     let kind = kind_at(n, s.len()).ok_or(Refusal::WrongLength)?;
-    Refusal::WrongMark.unless(is_marked(s))?;
-    Refusal::WrongSum.unless(kind.is_summed(s, n))?;
-    Refusal::BadField.unless(is_header_right(s, kind) && are_lags_right(s, n, kind))?;
-    Refusal::WrongBias.unless(is_bias_right(s, kind))
+    unless(is_marked(s), Refusal::WrongMark)?;
+    unless(kind.is_summed(s, n), Refusal::WrongSum)?;
+    unless(
+        is_header_right(s, kind) && are_lags_right(s, n, kind),
+        Refusal::BadField,
+    )?;
+    unless(is_bias_right(s, kind), Refusal::WrongBias)
 }

@@ -3,12 +3,13 @@ use crate::sets::{Place, Set, Sets};
 use lta_spec::{Loss, Refusal, Shape};
 use test_lib_rules::call::{
     ADD, Answer, Bin, Call, IDLE, LAST, ORDERED, Op, SAVE, SPEED_DUMP, counted, data_bin,
-    next_block,
+    loss_number, next_block,
 };
 use test_lib_rules::frame_words;
 use test_lib_rules::history::{Quantity, Sampler};
 use test_lib_rules::places::{behind, places};
 use test_lib_tools::bytes::Kind;
+use test_lib_tools::refusal::unless;
 
 // "Open .. 524,288", and of a bin "16,777,215 members".
 const FULL: u64 = 524_288;
@@ -166,7 +167,7 @@ impl Cell {
     fn dump_says(&self, command: u64, bytes: u64) -> Answer {
         match self.destination(command) {
             None => Ok(IDLE),
-            Some(Place::Lost(loss)) => Ok(loss.into()),
+            Some(Place::Lost(loss)) => Ok(loss_number(loss)),
             Some(Place::Frame) => frame_words::says(self.shape.lags, Kind::Speed, bytes),
             Some(_) => Ok(0),
         }
@@ -224,8 +225,8 @@ impl Cell {
 
     // "8: Held unoccupied", or the loss.
     fn integrate_says(&self) -> Answer {
-        Refusal::NothingHeld.unless(self.occupied)?;
-        Ok(self.integrate_loss().map_or(0, u64::from))
+        unless(self.occupied, Refusal::NothingHeld)?;
+        Ok(self.integrate_loss().map_or(0, loss_number))
     }
 
     // "A bin's stamp is that of the integration that took it out of Free or replaced its set."
@@ -275,7 +276,10 @@ impl Cell {
 
     // "9: bin not Ready, 10: buffer shorter than a frame", or the frame's length.
     fn emit_says(&self, bin: Bin, bytes: u64) -> Answer {
-        Refusal::NotReady.unless(self.slot(bin.place(self.shape.bins)).is_ready())?;
+        unless(
+            self.slot(bin.place(self.shape.bins)).is_ready(),
+            Refusal::NotReady,
+        )?;
         frame_words::says(self.shape.lags, Kind::Binned, bytes)
     }
 

@@ -6,6 +6,7 @@ use test_lib_rules::history::Sampler;
 use test_lib_rules::places::{behind, places, taking};
 use test_lib_rules::{frame_words, page};
 use test_lib_tools::bytes::Kind;
+use test_lib_tools::refusal::unless;
 
 // The most cells of a run.
 const CELLS: usize = 16;
@@ -65,7 +66,7 @@ impl Machine {
 
     // "20 when no cell has a Ready bin, tested .. before 10", or the frame's length.
     fn pick_says(&self, bytes: u64) -> Answer {
-        Refusal::NothingReady.unless(self.picked_cell().is_some())?;
+        unless(self.picked_cell().is_some(), Refusal::NothingReady)?;
         frame_words::says(self.shape.lags, Kind::Binned, bytes)
     }
 

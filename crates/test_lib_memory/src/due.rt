@@ -2,13 +2,16 @@
 use crate::cells::{Cell, LONG, Run, SHORT, WIDE};
 use crate::map::{Field, Set, State};
 use lta_spec::{Loss, Refusal, Shape};
-use test_lib_rules::call::{Answer, Bin, Call, IDLE, ORDERED, Op, SAVE, SPEED_DUMP, tested};
+use test_lib_rules::call::{
+    Answer, Bin, Call, IDLE, ORDERED, Op, SAVE, SPEED_DUMP, loss_number, tested,
+};
 use test_lib_rules::{frame_words, page};
 use test_lib_tools::bytes::Kind;
+use test_lib_tools::refusal::unless;
 
 // The number of a loss, 0 for none.
 fn number(loss: Option<Loss>) -> u64 {
-    loss.map_or(0, u64::from)
+    loss.map_or(0, loss_number)
 }
 
 // What each call says of a cell to which 11 does not apply.
@@ -54,14 +57,14 @@ impl Cell<'_> {
 
     // "8: Held unoccupied", or the loss.
     fn integrate_says(self) -> Answer {
-        Refusal::NothingHeld.unless(self.field(Field::Flag) != 0)?;
+        unless(self.field(Field::Flag) != 0, Refusal::NothingHeld)?;
         Ok(number(self.integrate_loss()))
     }
 
     // "9: bin not Ready, 10: buffer shorter than a frame", or the frame's length.
     fn emit_says(self, bin: Bin, bytes: u64) -> Answer {
         let q = self.run.layout.number(bin);
-        Refusal::NotReady.unless(self.is_ready(q))?;
+        unless(self.is_ready(q), Refusal::NotReady)?;
         frame_words::says(self.run.shape.lags, Kind::Binned, bytes)
     }
 
@@ -69,7 +72,7 @@ impl Cell<'_> {
     // ticks in the open integration".
     fn says(self, k: Call) -> Answer {
         let bad = self.run.now() > LONG || self.is_damaged(k.op);
-        Refusal::Damaged.unless(!bad)?;
+        unless(!bad, Refusal::Damaged)?;
         match k.op {
             Op::Dump { command, .. } => self.dump_says(command, k.bytes),
             Op::Integrate => self.integrate_says(),
@@ -84,9 +87,9 @@ impl Run<'_> {
     // "4: t is 2,147,483,648. Then 11." "a tick, the number of cells held off".
     fn tick_says(&self) -> Answer {
         let cells = self.shape.cells;
-        Refusal::RunFull.unless(self.now() != LONG)?;
+        unless(self.now() != LONG, Refusal::RunFull)?;
         let bad = self.now() > LONG || (0..cells).any(|c| self.cell(c).tick_bad());
-        Refusal::Damaged.unless(!bad)?;
+        unless(!bad, Refusal::Damaged)?;
         Ok((0..cells).filter(|&c| self.cell(c).is_full()).count() as u64)
     }
 
@@ -94,7 +97,7 @@ impl Run<'_> {
     fn page_says(&self, bytes: u64) -> Answer {
         let cells = self.shape.cells;
         let bad = self.now() > LONG || (0..cells).any(|c| self.cell(c).page_bad());
-        Refusal::Damaged.unless(!bad)?;
+        unless(!bad, Refusal::Damaged)?;
         page::says(cells, bytes)
     }
 
@@ -103,8 +106,8 @@ impl Run<'_> {
         let cells = self.shape.cells;
         let run_bad = self.now() > LONG || self.next_cell() >= cells;
         let bad = run_bad || (0..cells).any(|c| self.cell(c).pick_bad());
-        Refusal::Damaged.unless(!bad)?;
-        Refusal::NothingReady.unless(self.picked().is_some())?;
+        unless(!bad, Refusal::Damaged)?;
+        unless(self.picked().is_some(), Refusal::NothingReady)?;
         frame_words::says(self.shape.lags, Kind::Binned, bytes)
     }
 }

@@ -5,6 +5,7 @@ ghost use Rattle.std.specs.Prelude.{◌≤◌};
 use crate::history::Samples;
 use lta_spec::{Loss, Refusal, Shape};
 use test_lib_tools::bytes::Kind;
+use test_lib_tools::refusal::unless;
 
 // What a call answers, as a number of the papers, or why it is refused.
 pub type Answer = Result<u64, Refusal>;
@@ -18,6 +19,20 @@ pub const LOSSES: [Loss; 6] = [
     Loss::Wide,
     Loss::Holdoff,
 ];
+
+// The number of one.
+pub fn loss_number(loss: Loss) -> u64
+    ensures { result ≤ 6 }
+{
+    match loss {
+        Loss::Ordered => 1,
+        Loss::Overrun => 2,
+        Loss::Full => 3,
+        Loss::Replaced => 4,
+        Loss::Wide => 5,
+        Loss::Holdoff => 6,
+    }
+}
 
 // The commands of a dump that the models speak of: save, add, last, a speed dump, and the two that no set is held by.
 pub const SAVE: u64 = 0b000;
@@ -149,18 +164,18 @@ fn fits(s: Shape, phase: u64) -> bool {
 // 011". "7: bank not 0 or 1, or the data bin rule broken", which "concerns only bank and phase"; of an emission "bank,
 // or data bin not below B". "12: no such lag or loss".
 fn cell_tested(s: Shape, k: Call) -> Result<(), Refusal> {
-    Refusal::NoCell.unless(k.cell < s.cells)?;
+    unless(k.cell < s.cells, Refusal::NoCell)?;
     match k.op {
         Op::Dump {
             command,
             bank,
             phase,
         } => {
-            Refusal::BadCommand.unless(matches!(command, 0..=4 | 7))?;
-            Refusal::NoBin.unless(bank < 2 && fits(s, phase))
+            unless(matches!(command, 0..=4 | 7), Refusal::BadCommand)?;
+            unless(bank < 2 && fits(s, phase), Refusal::NoBin)
         }
-        Op::Emit(Bin { bank, bin }) => Refusal::NoBin.unless(bank < 2 && bin < s.bins),
-        Op::Reading { lag, loss } => Refusal::NoLag.unless(lag < s.lags && matches!(loss, 1..=6)),
+        Op::Emit(Bin { bank, bin }) => unless(bank < 2 && bin < s.bins, Refusal::NoBin),
+        Op::Reading { lag, loss } => unless(lag < s.lags && matches!(loss, 1..=6), Refusal::NoLag),
         _ => Ok(()),
     }
 }
@@ -168,15 +183,15 @@ fn cell_tested(s: Shape, k: Call) -> Result<(), Refusal> {
 // "Refusal 3 tests for 3C bytes"; "19 when a validity byte has another bit set, tested after 3 and before 4": that of
 // the call's cell, where there is such a cell.
 fn tick_tested(s: Shape, k: Call, validity: u8) -> Result<(), Refusal> {
-    Refusal::WrongSamples.unless(k.bytes == s.cells.wrapping_mul(3))?;
-    Refusal::BadValidity.unless(validity < 4 || k.cell >= s.cells)
+    unless(k.bytes == s.cells.wrapping_mul(3), Refusal::WrongSamples)?;
+    unless(validity < 4 || k.cell >= s.cells, Refusal::BadValidity)
 }
 
 // The first refusal that the arguments alone give. "Setup and every call on a run test 1, then 2, first"; a page and a
 // pick have no other argument that they test.
 pub fn tested(s: Shape, k: Call) -> Result<(), Refusal> {
-    Refusal::BadShape.unless(is_shape(s))?;
-    Refusal::WrongMemory.unless(k.words == needed(s))?;
+    unless(is_shape(s), Refusal::BadShape)?;
+    unless(k.words == needed(s), Refusal::WrongMemory)?;
     match k.op {
         Op::Tick(Samples { validity, .. }) => tick_tested(s, k, validity),
         Op::Page | Op::Pick(_) => Ok(()),

@@ -2,6 +2,7 @@
 use crate::call::{Answer, Bin};
 use lta_spec::{Refusal, Shape};
 use test_lib_tools::bytes::Kind;
+use test_lib_tools::refusal::unless;
 
 // What tells a frame apart from its set: its kind, its place in the run, and the stamp.
 #[derive(Clone, Copy, Debug, PartialEq, Eq)]
@@ -38,6 +39,6 @@ impl Header {
 // "10: buffer shorter than a frame", which comes last; or the answer, the frame's length.
 pub fn says(n: u64, kind: Kind, bytes: u64) -> Answer {
     let right = kind.length(n) as u64;
-    Refusal::ShortBuffer.unless(bytes >= right)?;
+    unless(bytes >= right, Refusal::ShortBuffer)?;
     Ok(right)
 }

@@ -3,6 +3,7 @@
 use crate::call::Answer;
 use lta_spec::Refusal;
 use test_lib_tools::bytes;
+use test_lib_tools::refusal::unless;
 
 // "One printed line per cell and loss", before the last.
 pub const LINES_OF_A_CELL: usize = 6;
@@ -15,7 +16,7 @@ pub fn length(cells: u64) -> u64 {
 // "its length is the answer", "A shorter buffer is refused by 10": what a page says where neither 1, 2 nor 11 applies.
 pub fn says(cells: u64, bytes: u64) -> Answer {
     let right = length(cells);
-    Refusal::ShortBuffer.unless(bytes >= right)?;
+    unless(bytes >= right, Refusal::ShortBuffer)?;
     Ok(right)
 }
 

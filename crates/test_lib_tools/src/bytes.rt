@@ -126,22 +126,38 @@ pub fn is_marked(s: &[u8]) -> bool {
     s.starts_with(&[0x4c, 0x54])
 }
 
+// After so many bytes the pattern comes again.
+const PERIOD: usize = 251;
+
 // What stands in byte i of a buffer that nobody has written yet.
 fn pattern(i: usize) -> u8 {
-    (i % 251) as u8
+    (i % PERIOD) as u8
+}
+
+// The pattern's byte behind one.
+fn behind(byte: u8) -> u8 {
+    if byte < 250 { byte + 1 } else { 0 }
 }
 
 // The pattern in every byte.
 pub fn fill_pattern(s: &mut [u8]) {
-    for (i, byte) in s.iter_mut().enumerate() {
-        *byte = pattern(i);
+    let mut next = pattern(0);
+    for byte in s {
+        *byte = next;
+        next = behind(next);
     }
 }
 
-// Does the pattern still stand in every byte from a on?
+// Does the pattern still stand in every byte from a on? The first of them are held to it, and each other one to the
+// byte a period before.
 pub fn is_kept(s: &[u8], a: usize) -> bool {
-    s.iter()
-        .enumerate()
-        .skip(a)
-        .all(|(i, &byte)| byte == pattern(i))
+    let rest = s.get(a..).unwrap_or(&[]);
+    let mut ok = true;
+    let mut next = pattern(a);
+    for &byte in head(rest, PERIOD) {
+        ok &= byte == next;
+        next = behind(next);
+    }
+    let later = rest.get(PERIOD..).unwrap_or(&[]);
+    ok && later == head(rest, later.len())
 }

@@ -8,22 +8,20 @@ mod samples;
 mod shapes;
 mod speed;
 
-use std::io;
-use test_lib_row::lines;
+use test_lib_tools::report::Tally;
 
 // The shapes have N of their own, the others N = 2.
-fn main(rt: HostRuntime) -> io::Result<()> {
-    let groups = [
-        ("shapes", shapes::shapes()),
-        ("data bin", binning::data_bins()),
-        ("blocks", binning::blocks()),
-        ("argument", arguments::arguments()),
-        ("wide", binning::wide()),
-        ("speed", speed::dumps()),
-        ("validity", samples::validity()),
-        ("bytes", samples::bytes()),
-        ("entries", samples::entries()),
-        ("peaks", samples::peaks()),
-    ];
-    lines(&rt, 2, &groups)?.verdict(&rt)
+fn main(rt: HostRuntime) {
+    let mut total = Tally::default();
+    total.group(&rt, 2, "shapes", shapes::shapes());
+    total.group(&rt, 2, "data bin", binning::data_bins());
+    total.group(&rt, 2, "blocks", binning::blocks());
+    total.group(&rt, 2, "argument", arguments::arguments());
+    total.group(&rt, 2, "wide", binning::wide());
+    total.group(&rt, 2, "speed", speed::dumps());
+    total.group(&rt, 2, "validity", samples::validity());
+    total.group(&rt, 2, "bytes", samples::bytes());
+    total.group(&rt, 2, "entries", samples::entries());
+    total.group(&rt, 2, "peaks", samples::peaks());
+    total.verdict(&rt);
 }

@@ -3,7 +3,6 @@
 // sampler's bytes alone.
 #![tactic(auto)]
 
-use std::io;
 use test_lib_calls::ask;
 use test_lib_lists::draw::List;
 use test_lib_machine::machine::Machine;
@@ -68,7 +67,7 @@ fn rows(record: &mut Record, list: List) {
     run(&mut mem, &mut m, record, list);
 }
 
-fn main(rt: HostRuntime) -> io::Result<()> {
+fn main(rt: HostRuntime) {
     let mut record = Record::default();
     let mut all = Tally::default();
     for (l, values) in (0..).zip(SHAPES) {
@@ -80,12 +79,12 @@ fn main(rt: HostRuntime) -> io::Result<()> {
         record.list = Tally::default();
         rows(&mut record, list);
         let [c, n, b, m, s, ..] = values;
-        println!(&rt;
+        let _ = println!(&rt;
             "C = {c}, N = {n}, B = {b}, M = {m}, S = {s} {}",
             record.list
-        )?;
+        );
         all.include(&record.list);
     }
-    record.print(&rt)?;
-    all.verdict(&rt)
+    record.print(&rt);
+    all.verdict(&rt);
 }

@@ -5,10 +5,11 @@
 mod order;
 mod ready;
 
-use std::io;
-use test_lib_row::lines;
+use test_lib_tools::report::Tally;
 
-fn main(rt: HostRuntime) -> io::Result<()> {
-    let groups = [("order", order::refusals()), ("ready", ready::numbers())];
-    lines(&rt, 2, &groups)?.verdict(&rt)
+fn main(rt: HostRuntime) {
+    let mut total = Tally::default();
+    total.group(&rt, 2, "order", order::refusals());
+    total.group(&rt, 2, "ready", ready::numbers());
+    total.verdict(&rt);
 }

@@ -4,14 +4,12 @@
 
 mod rounds;
 
-use std::io;
-use test_lib_row::lines;
+use test_lib_tools::report::Tally;
 
-fn main(rt: HostRuntime) -> io::Result<()> {
-    let groups = [
-        ("choices", rounds::choices()),
-        ("all", rounds::all()),
-        ("rounds", rounds::longest()),
-    ];
-    lines(&rt, 2, &groups)?.verdict(&rt)
+fn main(rt: HostRuntime) {
+    let mut total = Tally::default();
+    total.group(&rt, 2, "choices", rounds::choices());
+    total.group(&rt, 2, "all", rounds::all());
+    total.group(&rt, 2, "rounds", rounds::longest());
+    total.verdict(&rt);
 }

@@ -8,6 +8,7 @@ use test_lib_row::agrees;
 use test_lib_rules::call::{Call, Op, needed, shaped};
 use test_lib_rules::places::behind;
 use test_lib_tools::random::below;
+use test_lib_tools::refusal::unless;
 use test_lib_tools::report::Tally;
 use test_lib_tools::words::put;
 
@@ -131,9 +132,7 @@ pub fn choices() -> Tally {
 fn pick_of_all(r: u64, i: u64) -> Result<Taken, Refusal> {
     let cell = behind(next_cell(r), i, 3);
     let q = behind(next_bin(r, cell), i / 3, 4);
-    Refusal::NothingReady
-        .unless(i < 12)
-        .map(|()| Taken { cell, q })
+    unless(i < 12, Refusal::NothingReady).map(|()| Taken { cell, q })
 }
 
 // Thirteen rows from the places of each row.

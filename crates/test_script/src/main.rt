@@ -6,7 +6,6 @@
 use lta_spec::Refusal;
 use script::input::run_bytes;
 use script::shape;
-use std::io;
 
 // A tick, a last dump, its integration and its frame.
 const WHOLE: &[u8] = b"TK\x02\x03\x03DP\x00\x02\x00\x00\x00IN\x00EM\x00\x00\x00\x00";
@@ -95,24 +94,23 @@ fn play(script: &[u8], out: &mut [u8]) -> Result<u64, Refusal> {
     run_bytes(&mut mem, script, out)
 }
 
-// What a script prints, under the line that says how many bytes it has.
-fn show(rt: &impl Print, script: &[u8]) -> io::Result<()> {
-    println!(rt; "-- {}", script.len())?;
+// What a script prints, under the line that says how many bytes it has. What cannot be written is dropped.
+fn show(rt: &impl Print, script: &[u8]) {
+    let _ = println!(rt; "-- {}", script.len());
     let mut out = [0u8; 4096];
     let length = play(script, &mut out).unwrap_or(0) as usize;
-    rt.write_all(out.get(..length).unwrap_or(&out))
+    let _ = rt.write_all(out.get(..length).unwrap_or(&out));
 }
 
 // The whole script, cut behind each byte.
-fn cuts(rt: &impl Print) -> io::Result<()> {
+fn cuts(rt: &impl Print) {
     for end in 0..=WHOLE.len() {
-        show(rt, &WHOLE[..end])?;
+        show(rt, &WHOLE[..end]);
     }
-    Ok(())
 }
 
-fn main(rt: HostRuntime) -> io::Result<()> {
-    cuts(&rt)?;
+fn main(rt: HostRuntime) {
+    cuts(&rt);
     for group in [
         MARKS,
         LONE_LETTERS,
@@ -126,8 +124,7 @@ fn main(rt: HostRuntime) -> io::Result<()> {
         BANKS,
     ] {
         for script in group {
-            show(&rt, script)?;
+            show(&rt, script);
         }
     }
-    Ok(())
 }
