@@ -2,7 +2,7 @@
 // every word within its limits.
 use crate::map::{Field, Layout, Place, Set, State, greatest};
 use lta_spec::Shape;
-use test_lib_rules::call::{ADD, SAVE, shaped, stored_command};
+use test_lib_rules::call::{ADD, SAVE, loss_number, shaped, stored_command};
 use test_lib_tools::words::{mix, put};
 
 // t: less than the ticks of some sets, which no call asks about.
@@ -83,7 +83,7 @@ impl Base {
         match set {
             Set::Open => if self.variant.full { 524_288 } else { 3 },
             Set::Held => if self.variant.occupied { 5 } else { 0 },
-            Set::Lost(loss) => 22 + loss as u64,
+            Set::Lost(loss) => 21 + loss_number(loss),
             Set::Bin(q) => match self.state(q) {
                 State::Free => 0,
                 State::Filling => 7,

@@ -170,8 +170,8 @@ impl Layout {
         self.register(Stream::Y) + self.depth()
     }
 
-    // The first word of bin q; past the end of memory where there is none.
-    fn bin(self, q: u64) -> u64 {
+    // The first word of bin q, its state; past the end of memory where there is none.
+    pub fn bin(self, q: u64) -> u64 {
         q.saturating_mul(self.bin_words())
             .saturating_add(self.bins_at())
     }
@@ -226,7 +226,7 @@ impl Layout {
     }
 }
 
-// The part of so many words in which word i stands, and its number there. Words of 32 bits are divided in half the time.
+// The part of so many words in which word i stands, and its number there. 32 bits are divided in half the time.
 fn parted(i: u64, words: u64) -> (u64, u64)
     requires { (1 ≤ words) × (words ≤ 515) }
 {

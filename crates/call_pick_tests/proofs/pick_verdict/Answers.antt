@@ -50,7 +50,8 @@ placed : (c : In_ok-unless) → let r = c.in_ok-run.run' in (run_of r.shape r.me
 placed c =
     let r = c.in_ok-run.run' in
     let u = run_of r.shape r.mem.now in
-    let q = passed Damaged c.unless.ensures (sound (goal.at.In_ok-unless c).After-parts_sound-parts) c.in_ok-unless.was in
+    let at = goal.at.In_ok-unless c in
+    let q = passed Damaged c.unless.ensures (sound at.After-parts_sound-parts) c.in_ok-unless.was in
     let p = and_both (leb u.t run_limit) _ q in
     ltb-true u.next r.shape.cells (and_both (picks_sound r.shape.bins u.t u.units) _ p.1).1
 
@@ -83,7 +84,8 @@ pub returns-in_err-unless : goal.returns-in_err-unless
 returns-in_err-unless c =
     let at = goal.at.returns-in_err-unless c in
     returned _ c.from_residual-in_err-unless.ensures
-    ∙ sym (run_passed at.In_ok-run ∙ fails Damaged c.unless.ensures (sound at.After-parts_sound-parts) _ c.in_err-unless.was)
+    ∙ sym (run_passed at.In_ok-run
+    ∙ fails Damaged c.unless.ensures (sound at.After-parts_sound-parts) _ c.in_err-unless.was)
 
 pub returns-in_err-unless-2 : goal.returns-in_err-unless-2
 returns-in_err-unless-2 c =
