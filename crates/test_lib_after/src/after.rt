@@ -5,10 +5,9 @@ use test_lib_rules::call::{Call, IDLE, Op};
 use test_lib_rules::places::behind;
 use test_lib_tools::words::{get, head};
 
-// What an accepted call does to a cell.
+// What an accepted call does to a cell that it changes.
 #[derive(Drop)]
 enum Change<'a> {
-    None,
     Tick(Tick<'a>),
     Dump(Dump<'a>),
     Integration(Integration<'a>),
@@ -18,41 +17,40 @@ enum Change<'a> {
 
 impl<'a> Change<'a> {
     // That of a call in the cell that it is about; a pick says which bin it takes.
-    fn in_cell(cell: Cell<'a>, op: Op) -> Change<'a> {
+    fn in_cell(cell: Cell<'a>, op: Op) -> Option<Change<'a>> {
         let layout = cell.run.layout;
         match op {
-            Op::Dump { command: IDLE, .. } => Change::None,
+            Op::Dump { command: IDLE, .. } => None,
             Op::Dump {
                 command,
                 bank,
                 phase,
-            } => Change::Dump(Dump {
+            } => Some(Change::Dump(Dump {
                 cell,
                 command,
                 bank,
                 phase,
-            }),
-            Op::Integrate => Change::Integration(Integration::of(cell)),
-            Op::Emit(bin) => Change::Emission(layout.number(bin)),
-            Op::Pick(Some(bin)) => Change::Pick(cell, layout.number(bin)),
-            _ => Change::None,
+            })),
+            Op::Integrate => Some(Change::Integration(Integration::of(cell))),
+            Op::Emit(bin) => Some(Change::Emission(layout.number(bin))),
+            Op::Pick(Some(bin)) => Some(Change::Pick(cell, layout.number(bin))),
+            _ => None,
         }
     }
 
     // That of a call in cell c; a tick is about every one.
-    fn of(old: &'a Run<'a>, k: Call, c: u64) -> Change<'a> {
+    fn of(old: &'a Run<'a>, k: Call, c: u64) -> Option<Change<'a>> {
         let cell = old.cell(c);
         match k.op {
-            Op::Tick(samples) => Change::Tick(Tick { cell, samples }),
+            Op::Tick(samples) => Some(Change::Tick(Tick { cell, samples })),
             op if c == k.cell => Change::in_cell(cell, op),
-            _ => Change::None,
+            _ => None,
         }
     }
 
     // The word that is due.
     fn word(&self, word: Word) -> u64 {
         match self {
-            Change::None => word.old,
             Change::Tick(tick) => tick.word(word),
             Change::Dump(dump) => dump.word(word),
             Change::Integration(integration) => integration.word(word),
@@ -62,15 +60,15 @@ impl<'a> Change<'a> {
     }
 }
 
-// Are the words of cell c what is due? A cell that the call is not about keeps them.
+// Are the words of cell c what is due? A cell that the call does not change keeps them.
 fn is_cell_right(now: &Run<'_>, old: &Run<'_>, k: Call, c: u64) -> bool {
     let layout = old.layout;
     let count = layout.cell_words();
     let words = head(now.cell(c).words, count);
     let before = head(old.cell(c).words, count);
     match Change::of(old, k, c) {
-        Change::None => words == before,
-        due => (0..count).all(|j| {
+        None => words == before,
+        Some(due) => (0..count).all(|j| {
             let word = Word {
                 place: layout.place(j),
                 old: get(before, j),

@@ -64,7 +64,7 @@ impl<'a> Cell<'a> {
     }
 
     pub fn field(self, field: Field) -> u64 {
-        get(self.words, field as u64)
+        self.word(Place::Field(field))
     }
 
     pub fn row(self, set: Set) -> Row<'a> {
@@ -95,7 +95,7 @@ impl<'a> Cell<'a> {
 
     // None where no state is stored so.
     pub fn state(self, q: u64) -> Option<State> {
-        match get(self.words, self.run.layout.bin(q)) {
+        match self.word(Place::State(q)) {
             0 => Some(State::Free),
             1 => Some(State::Filling),
             2 => Some(State::Ready),
@@ -104,7 +104,7 @@ impl<'a> Cell<'a> {
     }
 
     pub fn stamp(self, q: u64) -> u64 {
-        get(self.words, self.run.layout.bin(q).saturating_add(1))
+        self.word(Place::Stamp(q))
     }
 }
 

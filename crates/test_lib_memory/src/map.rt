@@ -170,8 +170,8 @@ impl Layout {
         self.register(Stream::Y) + self.depth()
     }
 
-    // The first word of bin q, its state; past the end of memory where there is none.
-    pub fn bin(self, q: u64) -> u64 {
+    // The first word of bin q; past the end of memory where there is none.
+    fn bin(self, q: u64) -> u64 {
         q.saturating_mul(self.bin_words())
             .saturating_add(self.bins_at())
     }
@@ -199,40 +199,33 @@ impl Layout {
 
     // What word j of a cell is, where the cell ends with its last bin.
     pub fn place(self, j: u64) -> Place {
+        let i = j.saturating_sub(FIELDS.len() as u64);
         if let Some(&field) = FIELDS.get(j as usize) {
-            return Place::Field(field);
-        }
-        let (r, i) = parted(j.saturating_sub(FIELDS.len() as u64), self.row_words());
-        match ROWS.get(r as usize) {
-            Some(&set) => Place::Row(set, i),
-            None => self.place_behind_rows(j.saturating_sub(self.register(Stream::X))),
+            Place::Field(field)
+        } else if let Some(&set) = ROWS.get((i / self.row_words()) as usize) {
+            Place::Row(set, i % self.row_words())
+        } else {
+            self.place_behind_rows(j.saturating_sub(self.register(Stream::X)))
         }
     }
 
     fn place_behind_rows(self, i: u64) -> Place {
-        match parted(i, self.depth()) {
-            (0, d) => Place::Entry(Stream::X, d),
-            (1, d) => Place::Entry(Stream::Y, d),
-            _ => self.place_in_bins(i.saturating_sub(2 * self.depth())),
+        let depth = self.depth();
+        match i / depth {
+            0 => Place::Entry(Stream::X, i % depth),
+            1 => Place::Entry(Stream::Y, i % depth),
+            _ => self.place_in_bins(i.saturating_sub(2 * depth)),
         }
     }
 
     fn place_in_bins(self, i: u64) -> Place {
-        match parted(i, self.bin_words()) {
-            (q, 0) => Place::State(q),
-            (q, 1) => Place::Stamp(q),
-            (q, word) => Place::Row(Set::Bin(q), word.saturating_sub(2)),
+        let q = i / self.bin_words();
+        match i % self.bin_words() {
+            0 => Place::State(q),
+            1 => Place::Stamp(q),
+            word => Place::Row(Set::Bin(q), word - 2),
         }
     }
-}
-
-// The part of so many words in which word i stands, and its number there. 32 bits are divided in half the time.
-fn parted(i: u64, words: u64) -> (u64, u64)
-    requires { (1 ≤ words) × (words ≤ 515) }
-{
-    let i = (i % (1 << 32)) as u32;
-    let words = words as u32;
-    (u64::from(i / words), u64::from(i % words))
 }
 
 // The greatest sum of so many ticks, 128 × ticks, as it is stored, with 128 × ticks added; the least is stored as 0.
