@@ -13,5 +13,5 @@ fn main(rt: HostRuntime) {
         sweep::groups(&rt, &mut total, lags);
     }
     total.group(&rt, 2, "losses", losses::pages());
-    total.verdict(&rt);
+    total.show_verdict(&rt);
 }

@@ -53,5 +53,5 @@ fn main(rt: HostRuntime) {
             at_each_n(&rt, &mut total, Frame::base(kind, n));
         }
     }
-    total.verdict(&rt);
+    total.show_verdict(&rt);
 }

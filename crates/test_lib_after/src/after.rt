@@ -60,14 +60,15 @@ impl<'a> Change<'a> {
     }
 }
 
-// Are the words of cell c what is due? A cell that the call does not change keeps them.
+// Are the words of cell c what is due? A cell that the call does not change keeps them: it is compared whole, and only
+// where that fails word by word, since a memory that ends early reads as 0 there.
 fn is_cell_right(now: &Run<'_>, old: &Run<'_>, k: Call, c: u64) -> bool {
     let layout = old.layout;
     let count = layout.cell_words();
     let words = head(now.cell(c).words, count);
     let before = head(old.cell(c).words, count);
     match Change::of(old, k, c) {
-        None => words == before,
+        None => words == before || (0..count).all(|j| get(words, j) == get(before, j)),
         Some(due) => (0..count).all(|j| {
             let word = Word {
                 place: layout.place(j),

@@ -1,8 +1,9 @@
 // One call on memory that the test has set: its answer, what it wrote, and every word afterwards are held to what the
-// papers say of those words.
+// papers say of those words. Rows of such calls make up groups, whose lines a program prints.
 #![tactic(auto)]
 
 use lta_spec::{Shape, Sums};
+use std::io;
 use test_lib_after::after::is_right;
 use test_lib_after::frames::is_frame;
 use test_lib_after::pages::is_page;
@@ -14,7 +15,7 @@ use test_lib_memory::map::Set;
 use test_lib_rules::call::{Answer, Call, LOSSES, Op};
 use test_lib_rules::history::Samples;
 use test_lib_tools::bytes::{PEAK, fill_pattern, is_kept};
-use test_lib_tools::report::Tally;
+use test_lib_tools::report::{Tally, line};
 
 // Samples of three cells that get the same bytes, with the two low bits of the validity byte.
 fn samples_of(Samples { x, y, validity }: Samples) -> [u8; 9] {
@@ -127,4 +128,14 @@ pub fn held_to(t: &mut Tally, s: Shape, old: &Memory, k: Call, due: Answer) {
 // A row in which the model alone says what is due.
 pub fn modelled(t: &mut Tally, s: Shape, old: &Memory, k: Call) {
     held_to(t, s, old, k, says(s, old, k));
+}
+
+// The lines of some groups, and their rows together; an error where a line cannot be written, which ends them.
+pub fn lines(rt: &impl Print, n: u64, groups: &[(&str, Tally)]) -> io::Result<Tally> {
+    let mut total = Tally::default();
+    for (name, tally) in groups {
+        line(rt, n, name, tally)?;
+        total.include(tally);
+    }
+    Ok(total)
 }

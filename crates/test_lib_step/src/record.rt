@@ -1,4 +1,5 @@
 // The rows of the lists, by groups.
+use std::io;
 use test_lib_rules::call::Op;
 use test_lib_tools::report::Tally;
 
@@ -68,11 +69,27 @@ impl Record {
         self.words = self.words.wrapping_add(words);
     }
 
-    // The lines of the groups.
-    pub fn print(&self, rt: &impl Print) {
+    // The lines of the groups, up to the first that cannot be written.
+    pub fn print(&self, rt: &impl Print) -> io::Result<()> {
         for (name, tally) in NAMES.iter().zip(&self.groups) {
-            let _ = println!(rt; "{name:12} {tally}");
+            group_line(rt, name, tally)?;
         }
-        let _ = println!(rt; "words of memory compared: {}", self.words);
+        self.words_line(rt)
     }
+
+    // The lines of the groups that can be written.
+    pub fn show(&self, rt: &impl Print) {
+        for (name, tally) in NAMES.iter().zip(&self.groups) {
+            let _ = group_line(rt, name, tally);
+        }
+        let _ = self.words_line(rt);
+    }
+
+    fn words_line(&self, rt: &impl Print) -> io::Result<()> {
+        println!(rt; "words of memory compared: {}", self.words)
+    }
+}
+
+fn group_line(rt: &impl Print, name: &str, tally: &Tally) -> io::Result<()> {
+    println!(rt; "{name:12} {tally}")
 }

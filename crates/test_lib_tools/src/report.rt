@@ -1,6 +1,6 @@
-// Counts of rows that agree and rows that do not, and the lines that say so. A line that cannot be written is dropped:
-// a test program works to its end all the same.
-use std::fmt;
+// Counts of rows that agree and rows that do not, and the lines that say so. `line` and `verdict` answer whether theirs
+// was written; `group` and `show_verdict` drop one that was not, so that a test program works to its end all the same.
+use std::{fmt, io};
 
 // Rows that agree and rows that differ, and those in which a refusal is due.
 #[derive(Clone, Copy, Debug, Default, PartialEq, Eq)]
@@ -32,17 +32,22 @@ impl Tally {
 
     // A group that was run with frames of N lags: its line, as soon as it is done, and its rows.
     pub fn group(&mut self, rt: &impl Print, n: u64, name: &str, rows: Tally) {
-        let _ = println!(rt; "N = {n}, {name:8} {rows}");
+        let _ = line(rt, n, name, &rows);
         self.include(&rows);
     }
 
     // The last line: "all agree", or "FAILED" and how many rows.
-    pub fn verdict(&self, rt: &impl Print) {
-        let _ = if self.differ == 0 {
+    pub fn verdict(&self, rt: &impl Print) -> io::Result<()> {
+        if self.differ == 0 {
             println!(rt; "all agree")
         } else {
             print!(rt; "FAILED {}", self.differ)
-        };
+        }
+    }
+
+    // The last line, if it can be written.
+    pub fn show_verdict(&self, rt: &impl Print) {
+        let _ = self.verdict(rt);
     }
 }
 
@@ -56,4 +61,9 @@ impl fmt::Display for Tally {
             self.agree, self.refusals
         )
     }
+}
+
+// The line of a group that was run with frames of N lags.
+pub fn line(rt: &impl Print, n: u64, name: &str, tally: &Tally) -> io::Result<()> {
+    println!(rt; "N = {n}, {name:8} {tally}")
 }

@@ -23,5 +23,5 @@ fn main(rt: HostRuntime) {
     total.group(&rt, 2, "bytes", samples::bytes());
     total.group(&rt, 2, "entries", samples::entries());
     total.group(&rt, 2, "peaks", samples::peaks());
-    total.verdict(&rt);
+    total.show_verdict(&rt);
 }

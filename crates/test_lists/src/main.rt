@@ -85,6 +85,6 @@ fn main(rt: HostRuntime) {
         );
         all.include(&record.list);
     }
-    record.print(&rt);
-    all.verdict(&rt);
+    record.show(&rt);
+    all.show_verdict(&rt);
 }

@@ -11,5 +11,5 @@ fn main(rt: HostRuntime) {
     let mut total = Tally::default();
     total.group(&rt, 2, "order", order::refusals());
     total.group(&rt, 2, "ready", ready::numbers());
-    total.verdict(&rt);
+    total.show_verdict(&rt);
 }

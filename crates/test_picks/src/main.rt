@@ -11,5 +11,5 @@ fn main(rt: HostRuntime) {
     total.group(&rt, 2, "choices", rounds::choices());
     total.group(&rt, 2, "all", rounds::all());
     total.group(&rt, 2, "rounds", rounds::longest());
-    total.verdict(&rt);
+    total.show_verdict(&rt);
 }
